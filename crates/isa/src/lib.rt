@@ -1,7 +1,9 @@
 // The instruction set of the K1801VM1: what an instruction word says, and the word for an instruction.
+pub mod decoding;
 pub mod instruction;
 pub mod operand;
 
+pub use decoding::decode;
 pub use instruction::Condition;
 pub use instruction::Control;
 pub use instruction::DoubleOperation;
