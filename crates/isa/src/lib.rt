@@ -1,9 +1,12 @@
 // The instruction set of the K1801VM1: what an instruction word says, and the word for an instruction.
 pub mod decoding;
+pub mod encoding;
+pub mod further;
 pub mod instruction;
 pub mod operand;
 
 pub use decoding::decode;
+pub use encoding::encode;
 pub use instruction::Condition;
 pub use instruction::Control;
 pub use instruction::DoubleOperation;
