@@ -80,14 +80,21 @@ five digit = getD (Clr ∷ Com ∷ Inc ∷ Dec ∷ Neg ∷ Adc ∷ Sbc ∷ []) d
 abbrev pub fives : Size → ℕ → Instruction
 fives size w = single size (five (w / 0o100 % 8)) w
 
--- branches in steps of 000400 from 000400
-abbrev pub lowBranch : ℕ → Instruction
-lowBranch w = Instruction.Branch (getD (Br ∷ Bne ∷ Beq ∷ Bge ∷ Blt ∷ Bgt ∷ []) (w / 0o400 - 1) Ble) (offset w)
+-- the branches in steps of 000400 from 000400
+abbrev pub lowCondition : ℕ → Condition
+lowCondition step = getD (Br ∷ Bne ∷ Beq ∷ Bge ∷ Blt ∷ Bgt ∷ []) (step - 1) Ble
 
--- branches in steps of 000400 from 100000
+-- 000400 to 003777
+abbrev pub lowBranch : ℕ → Instruction
+lowBranch w = Instruction.Branch (lowCondition (w / 0o400)) (offset w)
+
+-- the branches in steps of 000400 from 100000
+abbrev pub highCondition : ℕ → Condition
+highCondition step = getD (Bpl ∷ Bmi ∷ Bhi ∷ Blos ∷ Bvc ∷ Bvs ∷ Bcc ∷ []) step Bcs
+
+-- 100000 to 103777
 abbrev pub highBranch : ℕ → Instruction
-highBranch w =
-    Instruction.Branch (getD (Bpl ∷ Bmi ∷ Bhi ∷ Blos ∷ Bvc ∷ Bvs ∷ Bcc ∷ []) (w / 0o400 % 8) Bcs) (offset w)
+highBranch w = Instruction.Branch (highCondition (w / 0o400 % 8)) (offset w)
 
 -- 000000 to 000006, and nothing up to 000077
 abbrev pub control : ℕ → Instruction

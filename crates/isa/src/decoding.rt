@@ -10,10 +10,7 @@ use crate::instruction::Size;
 use crate::operand::Operand;
 use crate::operand::Register;
 ghost use mathlib.Core.Path.{_≡_};
-ghost use mathlib.Core.List.{[], _∷_};
-ghost use Prim.Native.Nat.{_-_};
-ghost use lib.ListN.{getD};
-ghost use Rattle.isa.specs.Reading.{register, mode, operand, offset, mask, double, five, lowBranch, highBranch};
+ghost use Rattle.isa.specs.Reading.{register, mode, operand, offset, mask, double, five, lowCondition, lowBranch, highCondition, highBranch};
 ghost use Rattle.isa.specs.Reading.{control, returns, returnOrFlags, zeros, wordSixes, byteSixes, low, traps, high, sevens, digits, reading};
 
 // The instruction that a word is: each word has one.
@@ -106,11 +103,10 @@ fn five_at(digit: u16) -> SingleOperation
     }
 }
 
-// The branches from 000400 on.
-fn low_branch_in(word: u16) -> Instruction
-    ensures { λ r. ⌜ r ≡ lowBranch word ⌝ }
+fn low_condition_at(step: u16) -> Condition
+    ensures { λ r. ⌜ r ≡ lowCondition step ⌝ }
 {
-    let condition = match word / 0o400 {
+    match step {
         0 | 1 => Condition::Br,
         2 => Condition::Bne,
         3 => Condition::Beq,
@@ -118,15 +114,20 @@ fn low_branch_in(word: u16) -> Instruction
         5 => Condition::Blt,
         6 => Condition::Bgt,
         _ => Condition::Ble,
-    };
-    Instruction::Branch(condition, offset_in(word))
+    }
 }
 
-// The branches from 100000 on.
-fn high_branch_in(word: u16) -> Instruction
-    ensures { λ r. ⌜ r ≡ highBranch word ⌝ }
+// The branches from 000400 on.
+fn low_branch_in(word: u16) -> Instruction
+    ensures { λ r. ⌜ r ≡ lowBranch word ⌝ }
 {
-    let condition = match word / 0o400 % 8 {
+    Instruction::Branch(low_condition_at(word / 0o400), offset_in(word))
+}
+
+fn high_condition_at(step: u16) -> Condition
+    ensures { λ r. ⌜ r ≡ highCondition step ⌝ }
+{
+    match step {
         0 => Condition::Bpl,
         1 => Condition::Bmi,
         2 => Condition::Bhi,
@@ -135,8 +136,14 @@ fn high_branch_in(word: u16) -> Instruction
         5 => Condition::Bvs,
         6 => Condition::Bcc,
         _ => Condition::Bcs,
-    };
-    Instruction::Branch(condition, offset_in(word))
+    }
+}
+
+// The branches from 100000 on.
+fn high_branch_in(word: u16) -> Instruction
+    ensures { λ r. ⌜ r ≡ highBranch word ⌝ }
+{
+    Instruction::Branch(high_condition_at(word / 0o400 % 8), offset_in(word))
 }
 
 fn control_in(word: u16) -> Instruction
