@@ -1,0 +1,4 @@
+pub mod Computed
+pub mod Digits
+pub mod Listed
+pub mod Readings
