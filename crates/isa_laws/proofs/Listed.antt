@@ -25,7 +25,7 @@ use Rattle.isa.specs.declared.instruction.FlagChange.{FlagChange}
 use Rattle.isa.specs.declared.instruction.FlagChange.the-variants.{Clear, Set}
 use Rattle.isa.specs.declared.instruction.FlagMask.{FlagMask}
 use Rattle.isa.specs.declared.instruction.Instruction.{Instruction}
-use Rattle.isa.specs.Reading.{register, operand, offset, lowCondition, lowBranch, highCondition, highBranch, reading}
+use Rattle.isa.specs.Reading.{register, operand, offset, five, lowCondition, lowBranch, highCondition, highBranch, reading}
 use Rattle.isa.specs.Word.{number, bits, byte, maskBits, sizeBit, controlWord, singleBase, doubleBase, branchBase, flagBase, word}
 use Rattle.isa_laws.specs.OneReading.{inByte, listed}
 use Rattle.isa_laws.proofs.Digits.{number-digit, register-at, operand-at, bits-small, Digits, digits-of, Branching, branching-of, byte-small, mask-at, mask-small}
@@ -96,26 +96,40 @@ from-status-said : (d : Operand) → reading (0o106700 + bits d) ≡ Instruction
 unfolding reading
 from-status-said = operand-said 8 6 7 Instruction.FromStatus (lit< tt) (lit< tt) (λ w g. rw (g .first, g .second, g .third) refl)
 
+-- the first two digits of an operation of one operand, as one number
+abbrev group : Size → ℕ
+group Word = 0
+group Byte = 8
+
+five-said
+    : (size : Size) (c : ℕ) → c < 8 → (d : Operand) →
+    reading (0o10000 * group size + 0o1000 * 5 + 0o100 * c + bits d) ≡ Instruction.Single size (five c) d
+unfolding reading
+five-said Word c lt =
+    operand-said 0 5 c (Instruction.Single Word (five c)) (lit< tt) lt (λ w g. rw (g .first, g .second, g .third) refl)
+five-said Byte c lt =
+    operand-said 8 5 c (Instruction.Single Byte (five c)) (lit< tt) lt (λ w g. rw (g .first, g .second, g .third) refl)
+
 single-said
     : (size : Size) (o : SingleOperation) (d : Operand) →
     reading (sizeBit size + singleBase o + bits d) ≡ Instruction.Single size o d
 unfolding reading
-single-said Word Clr = operand-said 0 5 0 (Instruction.Single Word Clr) (lit< tt) (lit< tt) (λ w g. rw (g .first, g .second, g .third) refl)
-single-said Byte Clr = operand-said 8 5 0 (Instruction.Single Byte Clr) (lit< tt) (lit< tt) (λ w g. rw (g .first, g .second, g .third) refl)
-single-said Word Com = operand-said 0 5 1 (Instruction.Single Word Com) (lit< tt) (lit< tt) (λ w g. rw (g .first, g .second, g .third) refl)
-single-said Byte Com = operand-said 8 5 1 (Instruction.Single Byte Com) (lit< tt) (lit< tt) (λ w g. rw (g .first, g .second, g .third) refl)
-single-said Word Inc = operand-said 0 5 2 (Instruction.Single Word Inc) (lit< tt) (lit< tt) (λ w g. rw (g .first, g .second, g .third) refl)
-single-said Byte Inc = operand-said 8 5 2 (Instruction.Single Byte Inc) (lit< tt) (lit< tt) (λ w g. rw (g .first, g .second, g .third) refl)
-single-said Word Dec = operand-said 0 5 3 (Instruction.Single Word Dec) (lit< tt) (lit< tt) (λ w g. rw (g .first, g .second, g .third) refl)
-single-said Byte Dec = operand-said 8 5 3 (Instruction.Single Byte Dec) (lit< tt) (lit< tt) (λ w g. rw (g .first, g .second, g .third) refl)
-single-said Word Neg = operand-said 0 5 4 (Instruction.Single Word Neg) (lit< tt) (lit< tt) (λ w g. rw (g .first, g .second, g .third) refl)
-single-said Byte Neg = operand-said 8 5 4 (Instruction.Single Byte Neg) (lit< tt) (lit< tt) (λ w g. rw (g .first, g .second, g .third) refl)
-single-said Word Adc = operand-said 0 5 5 (Instruction.Single Word Adc) (lit< tt) (lit< tt) (λ w g. rw (g .first, g .second, g .third) refl)
-single-said Byte Adc = operand-said 8 5 5 (Instruction.Single Byte Adc) (lit< tt) (lit< tt) (λ w g. rw (g .first, g .second, g .third) refl)
-single-said Word Sbc = operand-said 0 5 6 (Instruction.Single Word Sbc) (lit< tt) (lit< tt) (λ w g. rw (g .first, g .second, g .third) refl)
-single-said Byte Sbc = operand-said 8 5 6 (Instruction.Single Byte Sbc) (lit< tt) (lit< tt) (λ w g. rw (g .first, g .second, g .third) refl)
-single-said Word Tst = operand-said 0 5 7 (Instruction.Single Word Tst) (lit< tt) (lit< tt) (λ w g. rw (g .first, g .second, g .third) refl)
-single-said Byte Tst = operand-said 8 5 7 (Instruction.Single Byte Tst) (lit< tt) (lit< tt) (λ w g. rw (g .first, g .second, g .third) refl)
+single-said Word Clr = five-said Word 0 (lit< tt)
+single-said Byte Clr = five-said Byte 0 (lit< tt)
+single-said Word Com = five-said Word 1 (lit< tt)
+single-said Byte Com = five-said Byte 1 (lit< tt)
+single-said Word Inc = five-said Word 2 (lit< tt)
+single-said Byte Inc = five-said Byte 2 (lit< tt)
+single-said Word Dec = five-said Word 3 (lit< tt)
+single-said Byte Dec = five-said Byte 3 (lit< tt)
+single-said Word Neg = five-said Word 4 (lit< tt)
+single-said Byte Neg = five-said Byte 4 (lit< tt)
+single-said Word Adc = five-said Word 5 (lit< tt)
+single-said Byte Adc = five-said Byte 5 (lit< tt)
+single-said Word Sbc = five-said Word 6 (lit< tt)
+single-said Byte Sbc = five-said Byte 6 (lit< tt)
+single-said Word Tst = five-said Word 7 (lit< tt)
+single-said Byte Tst = five-said Byte 7 (lit< tt)
 single-said Word Ror = operand-said 0 6 0 (Instruction.Single Word Ror) (lit< tt) (lit< tt) (λ w g. rw (g .first, g .second, g .third) refl)
 single-said Byte Ror = operand-said 8 6 0 (Instruction.Single Byte Ror) (lit< tt) (lit< tt) (λ w g. rw (g .first, g .second, g .third) refl)
 single-said Word Rol = operand-said 0 6 1 (Instruction.Single Word Rol) (lit< tt) (lit< tt) (λ w g. rw (g .first, g .second, g .third) refl)
