@@ -45,7 +45,7 @@ abbrev pub offset : ℕ → ℤ
 offset w = cond (ltb (w % 0o400) 0o200) (pos (w % 0o400)) (negsuc (0o377 - w % 0o400))
 
 -- the flags that bits 3 to 0 name: N, Z, V, C
-unfoldable pub mask : ℕ → FlagMask
+abbrev pub mask : ℕ → FlagMask
 mask w =
     record {
       n = eqb (w / 8 % 2) 1;

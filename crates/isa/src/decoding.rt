@@ -61,8 +61,7 @@ fn operand_in(word: u16) -> Operand
 fn offset_in(word: u16) -> i8
     ensures { λ r. ⌜ r ≡ offset word ⌝ }
 {
-    let byte = (word % 0o400) as u8;
-    byte.cast_signed()
+    ((word % 0o400) as u8).cast_signed()
 }
 
 fn mask_in(word: u16) -> FlagMask

@@ -11,7 +11,7 @@ use crate::operand::Operand;
 use crate::operand::Register;
 ghost use mathlib.Core.Path.{_≡_};
 ghost use Prim.Native.Nat.{_+_, _*_, _<_, _≤_, _%_};
-ghost use Rattle.isa.specs.Word.{number, bits, sizeBit, controlWord, singleBase, doubleBase, branchBase, flagBase, maskBits, word};
+ghost use Rattle.isa.specs.Word.{number, bits, sizeBit, controlWord, singleBase, doubleBase, branchBase, byte, flagBase, maskBits, word};
 
 // The word that an instruction is written as. Of a count of `Mark` or `Loop` it has the six low bits.
 pub fn encode(instruction: Instruction) -> u16
@@ -23,13 +23,12 @@ pub fn encode(instruction: Instruction) -> u16
         Instruction::Return(link) => 0o000200 + register_digit(link),
         Instruction::Flags(change, mask) => flag_base(change) + mask_bits(mask),
         Instruction::SwapBytes(destination) => 0o000300 + operand_digits(destination),
-        Instruction::Branch(condition, offset) => branch_base(condition)
-            + offset.cast_unsigned() as u16,
-        Instruction::Call(link, target) => with_register(0o004000, link, operand_digits(target)),
+        Instruction::Branch(condition, offset) => branch_word(condition, offset),
+        Instruction::Call(link, target) => with_register(0o004000, link, target),
         Instruction::Single(size, operation, destination) => {
             size_bit(size) + single_base(operation) + operand_digits(destination)
         }
-        Instruction::Mark(count) => 0o006400 + (count % 0o100) as u16,
+        Instruction::Mark(count) => 0o006400 + six_bits(count),
         Instruction::SignExtend(destination) => 0o006700 + operand_digits(destination),
         Instruction::ToStatus(source) => 0o106400 + operand_digits(source),
         Instruction::FromStatus(destination) => 0o106700 + operand_digits(destination),
@@ -41,13 +40,11 @@ pub fn encode(instruction: Instruction) -> u16
         Instruction::ExclusiveOr(source, destination) => with_register(
             0o074000,
             source,
-            operand_digits(destination),
+            destination,
         ),
-        Instruction::Loop(counter, count) => with_register(
-            0o077000,
-            counter,
-            (count % 0o100) as u16,
-        ),
+        Instruction::Loop(counter, count) => 0o077000
+            + 0o100 * register_digit(counter)
+            + six_bits(count),
         Instruction::Emulate(byte) => 0o104000 + byte as u16,
         Instruction::Trap(byte) => 0o104400 + byte as u16,
         Instruction::Reserved(number) => number,
@@ -86,13 +83,20 @@ fn operand_digits(operand: Operand) -> u16
     }
 }
 
-// A register digit and six low bits after a base.
-fn with_register(base: u16, register: Register, low: u16) -> u16
-    requires base { ⌜ base < 0o100000 ⌝ }
-    requires low { ⌜ low < 0o100 ⌝ }
-    ensures { λ r. ⌜ r ≡ base + 0o100 * number register + low ⌝ }
+// A count as far as six bits hold it.
+fn six_bits(count: u8) -> u16
+    ensures value { λ r. ⌜ r ≡ count % 0o100 ⌝ }
+    ensures bound { λ r. ⌜ r < 0o100 ⌝ }
 {
-    base + 0o100 * register_digit(register) + low
+    (count % 0o100) as u16
+}
+
+// A register digit and an operand after a base.
+fn with_register(base: u16, register: Register, operand: Operand) -> u16
+    requires { ⌜ base < 0o100000 ⌝ }
+    ensures { λ r. ⌜ r ≡ base + 0o100 * number register + bits operand ⌝ }
+{
+    base + 0o100 * register_digit(register) + operand_digits(operand)
 }
 
 // Source and destination after a base.
@@ -182,6 +186,13 @@ fn branch_base(condition: Condition) -> u16
         Condition::Bcc => 0o103000,
         Condition::Bcs => 0o103400,
     }
+}
+
+// A branch with its offset in the low byte.
+fn branch_word(condition: Condition, offset: i8) -> u16
+    ensures { λ r. ⌜ r ≡ branchBase condition + byte offset ⌝ }
+{
+    branch_base(condition) + offset.cast_unsigned() as u16
 }
 
 fn flag_base(change: FlagChange) -> u16

@@ -116,7 +116,6 @@ bit-small false = lit< tt
 
 -- four low bits are read as their flags
 pub mask-at : (w k : ℕ) (m : FlagMask) → w ≡ 0o20 * k + maskBits m → mask w ≡ m
-unfolding mask
 mask-at w k m e =
     let n = bit-small (m .n) in
     let z = bit-small (m .z) in

@@ -6,7 +6,7 @@ use mathlib.Core.Logic.{_⊎_, inl, inr}
 use lib.Dec.{eqb}
 use borrow.Author.Tests.{eqb-true}
 use Rattle.isa.specs.declared.instruction.Instruction.{Instruction}
-use Rattle.isa.specs.Reading.{reading, mask}
+use Rattle.isa.specs.Reading.{reading}
 use Rattle.isa.specs.Word.{word}
 use Rattle.isa_laws.specs.OneReading.{listed, Has, howMany, reservedWords}
 use Rattle.isa_laws.proofs.Computed.{all, passing, every, how-many}
@@ -39,11 +39,11 @@ abbrev right : ℕ → Bool
 right w = elim (listed (reading w)) [ true ↦ eqb (word (reading w)) w | false ↦ isReserved (reading w) w ]
 
 all-right : all right 16 0 ≡ true
-unfolding reading mask
+unfolding reading
 all-right = refl
 
 passing-reserved : passing (λ (w : ℕ). not (listed (reading w))) 16 0 ≡ 8529
-unfolding reading mask
+unfolding reading
 passing-reserved = refl
 
 is-reserved : (i : Instruction) (w : ℕ) → isReserved i w ≡ true → i ≡ Instruction.Reserved w
