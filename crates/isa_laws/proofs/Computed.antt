@@ -1,7 +1,8 @@
 -- A test of every number of k bits, computed by halves.
 use Prim.Native.Nat.{ℕ, zero, suc, _+_, _*_, _^_, _<_, _≤_}
 use mathlib.Core.Path.{_≡_, refl, sym, ap, subst, _∙_}
-use mathlib.Core.Bool.{Bool, true, false, not}
+use mathlib.Core.Bool.{Bool, true, false}
+use native.Mathlib.Numerals.{add-one}
 use native.Mathlib.Omega.{arith}
 use native.Mathlib.Decide.{decLt}
 use native.Mathlib.Nat.{pow-suc, mul-assoc, add-mul, one-mul, zero-mul}
@@ -18,7 +19,7 @@ abbrev pub passing : (ℕ → Bool) → ℕ → ℕ → ℕ
 passing test zero b = bit (test b)
 passing test (suc k) b = passing test k (2 * b) + passing test k (2 * b + 1)
 
-both : (a b : Bool) → elim a as (λ _. Bool) [ true ↦ b | false ↦ false ] ≡ true → (a ≡ true) × (b ≡ true)
+pub both : (a b : Bool) → elim a as (λ _. Bool) [ true ↦ b | false ↦ false ] ≡ true → (a ≡ true) × (b ≡ true)
 both true b h = (refl, h)
 both false b h = absurd (subst (λ (x : Bool). elim x as (λ _. Type 0) [ true ↦ ⊥ | false ↦ Unit {0} ]) h tt)
 
@@ -69,9 +70,14 @@ counted test (suc k) b lo hi p q =
       counted test k (2 * b + 1) middle hi refl (q ∙ t .high),
     )
 
-none : (test : ℕ → Bool) → howMany test 0 ≡ 0
+pub none : (test : ℕ → Bool) → howMany test 0 ≡ 0
 unfolding howMany
 none test = refl
+
+-- one number more
+pub more : (test : ℕ → Bool) (n : ℕ) → howMany test (n + 1) ≡ bit (test n) + howMany test n
+unfolding howMany
+more test n = rw add-one refl
 
 -- what is counted by halves is how many pass
 pub how-many : (test : ℕ → Bool) (k : ℕ) → howMany test (2 ^ k) ≡ passing test k 0

@@ -110,7 +110,7 @@ bit-at : (x : ℕ) (b : Bool) → x ≡ bit b → eqb x 1 ≡ b
 bit-at x true e = rw e refl
 bit-at x false e = rw e refl
 
-bit-small : (b : Bool) → bit b < 2
+pub bit-small : (b : Bool) → bit b < 2
 bit-small true = lit< tt
 bit-small false = lit< tt
 

@@ -1,7 +1,7 @@
 -- Reading against the instruction table: which instruction has a word, and how many words none has.
 use Prim.Native.Nat.{ℕ, zero, suc, _+_, _<_}
 use mathlib.Core.Path.{_≡_}
-use mathlib.Core.Bool.{Bool, true, false, not}
+use mathlib.Core.Bool.{Bool, true, false}
 use mathlib.Core.Logic.{_⊎_}
 use lib.Dec.{ltb}
 use lib.IntN.{ℤ, pos, negsuc}
@@ -55,11 +55,34 @@ pub record OneReading (w : ℕ) : Type 0 where
 abbrev pub WordsHaveOneReading : Type 0
 WordsHaveOneReading = (w : ℕ) → w < 0o200000 → OneReading w
 
+-- whether an instruction is a reserved word
+abbrev pub isReserved : Instruction → Bool
+isReserved (Instruction.Control c) = false
+isReserved (Instruction.Jump d) = false
+isReserved (Instruction.Return r) = false
+isReserved (Instruction.Flags change m) = false
+isReserved (Instruction.SwapBytes d) = false
+isReserved (Instruction.Branch c z) = false
+isReserved (Instruction.Call r d) = false
+isReserved (Instruction.Single size o d) = false
+isReserved (Instruction.Mark n) = false
+isReserved (Instruction.SignExtend d) = false
+isReserved (Instruction.ToStatus s) = false
+isReserved (Instruction.FromStatus d) = false
+isReserved (Instruction.Double size o s d) = false
+isReserved (Instruction.Add s d) = false
+isReserved (Instruction.Subtract s d) = false
+isReserved (Instruction.ExclusiveOr r d) = false
+isReserved (Instruction.Loop r n) = false
+isReserved (Instruction.Emulate n) = false
+isReserved (Instruction.Trap n) = false
+isReserved (Instruction.Reserved w) = true
+
+-- whether the word w is read as reserved
+abbrev pub reservedWord : ℕ → Bool
+reservedWord w = isReserved (reading w)
+
 -- how many numbers below n pass a test
 unfoldable pub howMany : (ℕ → Bool) → ℕ → ℕ
 howMany test zero = 0
 howMany test (suc n) = bit (test n) + howMany test n
-
--- how many words are reserved
-unfoldable pub reservedWords : ℕ
-reservedWords = howMany (λ (w : ℕ). not (listed (reading w))) 0o200000

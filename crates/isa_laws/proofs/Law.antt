@@ -1,3 +1,4 @@
+-- Each word has one reading.
 use Prim.Native.Nat.{ℕ, _<_}
 use mathlib.Core.Path.{_≡_, sym, _∙_, ap}
 use mathlib.Core.Bool.{true, false}
@@ -5,10 +6,9 @@ use mathlib.Core.Logic.{_⊎_, inl, inr}
 use native.Mathlib.Omega.{arith}
 use Rattle.isa.specs.declared.instruction.Instruction.{Instruction}
 use Rattle.isa.specs.Reading.{reading}
-use Rattle.isa_laws.specs.OneReading.{listed, Has, Says, OneReading}
+use Rattle.isa_laws.specs.OneReading.{listed, Has, Says, OneReading, WordsHaveOneReading}
 use Rattle.isa_laws.proofs.Listed.{listed-said}
 use Rattle.isa_laws.proofs.Readings.{reads-back}
-use Rattle.isa_laws.proofs.words_have_one_reading.Needs as need
 
 read-as : (w : ℕ) (i : Instruction) → Has w i → i ≡ reading w
 read-as w i h = sym (listed-said i (h .is-listed)) ∙ ap reading (h .has)
@@ -29,6 +29,6 @@ only w back i (inl h) = read-as w i h
 only w (inl h) i (inr n) = absurd (n .1 (reading w) h)
 only w (inr e) i (inr n) = n .0 ∙ sym e
 
-pub returns : need.returns
-returns c =
-    λ w lt. record { says = says w (reads-back w lt); only = only w (reads-back w lt) }
+-- each word has one reading
+pub words-have-one-reading : WordsHaveOneReading
+words-have-one-reading w lt = record { says = says w (reads-back w lt); only = only w (reads-back w lt) }
