@@ -234,10 +234,10 @@ groups =
     ∷ (λ (v : ℕ). Instruction.Subtract (operand (v / 0o100)) (operand v))
     ∷ []
 
--- what the word w says
+-- what the word w says, by its digits
 abbrev pub digits : ℕ → Instruction
 digits w = pick groups (w / 0o10000) reserved w
 
--- the reading of the word w, shut for those who build on it
+-- the reading of the word w; it stays shut, so that a goal that names it stays short
 unfoldable pub reading : ℕ → Instruction
 reading w = digits w
