@@ -1,0 +1,34 @@
+-- The flags in the status word: C is bit 0, V bit 1, Z bit 2, N bit 3.
+use Prim.Native.Nat.{ℕ, _+_, _*_, _/_, _%_}
+use lib.Dec.{eqb}
+use mathlib.Core.Bool.{Bool, not, _&&_, _||_, cond}
+use Rattle.isa.specs.declared.instruction.FlagChange.{FlagChange}
+use Rattle.isa.specs.declared.instruction.FlagChange.the-variants.{Clear, Set}
+use Rattle.isa.specs.declared.instruction.FlagMask.{FlagMask}
+use Rattle.arithmetic.specs.declared.flags.Flags.{Flags}
+
+-- a bit as a number
+abbrev pub bit : Bool → ℕ
+bit b = cond b 1 0
+
+-- the last binary digit is 1
+abbrev pub odd : ℕ → Bool
+odd n = eqb (n % 2) 1
+
+-- the flags that a status word holds
+unfoldable pub flags-of : ℕ → Flags
+flags-of status = record { n = odd (status / 8); z = odd (status / 4); v = odd (status / 2); c = odd status }
+
+-- the status word with these flags, its other bits kept
+unfoldable pub with-flags : ℕ → Flags → ℕ
+with-flags status f = status / 16 * 16 + (8 * bit (f .n) + 4 * bit (f .z) + 2 * bit (f .v) + bit (f .c))
+
+-- MTPS: the low byte of the operand in the place of the status word's
+unfoldable pub with-low-byte : ℕ → ℕ → ℕ
+with-low-byte status x = status / 256 * 256 + x % 256
+
+-- 000240 to 000257 clear the flags of the mask, 000260 to 000277 set them; the others are kept
+abbrev pub changed-flags : FlagChange → FlagMask → Flags → Flags
+changed-flags Clear m f =
+    record { n = not (m .n) && f .n; z = not (m .z) && f .z; v = not (m .v) && f .v; c = not (m .c) && f .c }
+changed-flags Set m f = record { n = m .n || f .n; z = m .z || f .z; v = m .v || f .v; c = m .c || f .c }
