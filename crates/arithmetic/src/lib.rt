@@ -1,6 +1,7 @@
 // What every operation makes of its operands: results, flags, branch conditions.
 pub mod branch;
 pub mod flags;
+pub mod laws;
 pub mod one_operand;
 pub mod outcome;
 pub mod two_operands;
@@ -12,6 +13,7 @@ pub use branch::taken;
 pub use flags::Flags;
 pub use flags::change_flags;
 pub use flags::load_status;
+pub use laws::arithmetic_laws;
 pub use one_operand::single;
 pub use outcome::Outcome;
 pub use two_operands::double;
