@@ -5,6 +5,7 @@ use Rattle.isa.specs.declared.instruction.Condition.the-variants.{Br, Bne, Beq,
 use Rattle.arithmetic.specs.declared.flags.Flags.{Flags}
 use Rattle.arithmetic.specs.Outcomes.{_xor_}
 
+-- a branch with this condition is taken under these flags
 abbrev pub branches : Condition → Flags → Bool
 branches Br f = true
 branches Bne f = not (f .z)

@@ -3,7 +3,7 @@ use Prim.Native.Nat.{ℕ, _+_, _*_, _/_, _<_}
 use lib.Dec.{eqb, leb, ltb}
 use lib.IntN.{pos, negℤ, _+ℤ_, _-ℤ_}
 use lib.Signed.{ltZ, leZ}
-use mathlib.Core.Bool.{Bool, false}
+use mathlib.Core.Bool.{Bool, false, not}
 use mathlib.Core.Path.{_≡_}
 use Rattle.std.specs.Options.{valueOr}
 use Rattle.isa.specs.declared.instruction.Size.{Size}
@@ -20,7 +20,7 @@ use Rattle.arithmetic.specs.Doubles.{double-outcome}
 use Rattle.arithmetic.specs.Singles.{single-outcome}
 use Rattle.arithmetic.specs.Status.{bit, flags-of, with-flags}
 use Rattle.arithmetic.specs.Widths.{span, signed, spread}
-use Rattle.arithmetic.specs.Words.{add-outcome, subtract-outcome, swap-outcome}
+use Rattle.arithmetic.specs.Words.{add-outcome, subtract-outcome, exclusive-or-outcome, swap-outcome}
 
 -- of every operand of either size, with every old flags
 abbrev pub Operands : (Size → ℕ → Flags → Type 0) → Type 0
@@ -51,6 +51,7 @@ Gives-carry-back second first size x f =
 -- what one operation does, another takes back; rotations take the carry back too
 pub record Undoing : Type 0 where
   pub subtraction-undoes-addition : Words (λ s d. left (subtract-outcome s (left (add-outcome s d))) ≡ d)
+  pub exclusive-or-twice : Words (λ s d. (f g : Flags) → left (exclusive-or-outcome s (left (exclusive-or-outcome s d f)) g) ≡ d)
   pub swap-twice : (x : ℕ) → x < span Word → left (swap-outcome (left (swap-outcome x))) ≡ x
   pub negation-twice : Operands (Undoes Neg Neg)
   pub complement-twice : Operands (Undoes Com Com)
@@ -76,6 +77,10 @@ pub record Exactness : Type 0 where
       Words (λ s d. subtract-outcome s d .flags .v ≡ false → signed Word (left (subtract-outcome s d)) ≡ signed Word d -ℤ signed Word s)
   pub negative :
       Operands (λ size x f. single-outcome Neg size x f .flags .v ≡ false → signed size (left (single-outcome Neg size x f)) ≡ negℤ (signed size x))
+  pub carry-added :
+      Operands (λ size x f. single-outcome Adc size x f .flags .v ≡ false → signed size (left (single-outcome Adc size x f)) ≡ signed size x +ℤ pos (bit (f .c)))
+  pub carry-taken :
+      Operands (λ size x f. single-outcome Sbc size x f .flags .v ≡ false → signed size (left (single-outcome Sbc size x f)) ≡ signed size x -ℤ pos (bit (f .c)))
   pub half :
       Operands
       (λ size x f. signed size x ≡ signed size (left (single-outcome Asr size x f)) +ℤ signed size (left (single-outcome Asr size x f)) +ℤ pos (bit (single-outcome Asr size x f .flags .c)))
@@ -89,6 +94,7 @@ Tells condition test = Pairs (λ size s d f. branches condition (double-outcome 
 pub record Comparing : Type 0 where
   pub as-subtraction : Words (λ s d. (f : Flags) → double-outcome Cmp Word s d f .flags ≡ subtract-outcome d s .flags)
   pub equal : Tells Beq (λ size s d. eqb s d)
+  pub different : Tells Bne (λ size s d. not (eqb s d))
   pub less : Tells Blt (λ size s d. ltZ (signed size s) (signed size d))
   pub less-or-equal : Tells Ble (λ size s d. leZ (signed size s) (signed size d))
   pub greater : Tells Bgt (λ size s d. ltZ (signed size d) (signed size s))

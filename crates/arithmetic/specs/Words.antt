@@ -1,4 +1,4 @@
--- The operations that exist for words alone, and MFPS.
+-- The operations that exist for words alone.
 use Prim.Native.Nat.{ℕ, _+_, _*_, _/_, _%_}
 use lib.Bits.{bitXor}
 use lib.Dec.{eqb, leb, ltb}
@@ -10,7 +10,6 @@ use Rattle.arithmetic.specs.declared.flags.Flags.{Flags}
 use Rattle.arithmetic.specs.declared.outcome.Outcome.{Outcome}
 use Rattle.arithmetic.specs.Doubles.{difference, difference-outside}
 use Rattle.arithmetic.specs.Outcomes.{flagged, result}
-use Rattle.arithmetic.specs.Status.{flags-of}
 use Rattle.arithmetic.specs.Widths.{span, signed, outside}
 
 -- ADD: the sum of source and destination; V if the signed sum is out of range, C if it carries
@@ -37,7 +36,3 @@ extend-outcome flags =
       value = Some (cond (flags .n) 0o177777 0);
       flags = record { n = flags .n; z = not (flags .n); v = false; c = flags .c };
     }
-
--- MFPS: the low byte of the status word, as it was before these flags; C kept
-unfoldable pub from-status-outcome : ℕ → Outcome
-from-status-outcome status = result Byte (status % 256) false (flags-of status .c)

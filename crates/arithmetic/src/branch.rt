@@ -1,7 +1,6 @@
-// Branches: when they are taken, and how far they go.
+// When each branch is taken.
 ghost use mathlib.Core.Path.{_≡_};
 ghost use Rattle.arithmetic.specs.Branches.{branches};
-ghost use Rattle.arithmetic.specs.Widths.{branch-distance};
 use crate::flags::Flags;
 use isa::Condition;
 
@@ -26,17 +25,5 @@ pub fn taken(condition: Condition, flags: Flags) -> bool
         Condition::Bvs => flags.v,
         Condition::Bcc => !flags.c,
         Condition::Bcs => flags.c,
-    }
-}
-
-// What a taken branch adds to PC: twice its offset, as a word.
-pub fn branch_distance(offset: i8) -> u16
-    ensures { λ r. ⌜ r ≡ branch-distance offset ⌝ }
-{
-    let twice = 2 * offset as i32;
-    if twice < 0 {
-        (twice + 65536) as u16
-    } else {
-        twice as u16
     }
 }

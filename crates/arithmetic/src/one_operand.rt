@@ -10,6 +10,7 @@ use crate::width;
 use isa::SingleOperation;
 use isa::Size;
 
+// COM: every bit turned.
 fn complement(size: Size, x: u16) -> Outcome
     requires { ⌜ x < span size ⌝ }
     ensures { λ r. ⌜ r ≡ complemented size x ⌝ }
@@ -18,6 +19,7 @@ fn complement(size: Size, x: u16) -> Outcome
     Outcome::with_result(size, value, false, true)
 }
 
+// INC: one more; overflow where that turns a positive number negative.
 fn increment(size: Size, x: u16, c: bool) -> Outcome
     requires { ⌜ x < span size ⌝ }
     ensures { λ r. ⌜ r ≡ incremented size x c ⌝ }
@@ -27,6 +29,7 @@ fn increment(size: Size, x: u16, c: bool) -> Outcome
     Outcome::with_result(size, value, overflow, c)
 }
 
+// DEC: one less; overflow where that turns a negative number positive.
 fn decrement(size: Size, x: u16, c: bool) -> Outcome
     requires { ⌜ x < span size ⌝ }
     ensures { λ r. ⌜ r ≡ decremented size x c ⌝ }
@@ -36,6 +39,7 @@ fn decrement(size: Size, x: u16, c: bool) -> Outcome
     Outcome::with_result(size, value, overflow, c)
 }
 
+// NEG: the negative; the smallest number is its own, and that is overflow.
 fn negate(size: Size, x: u16) -> Outcome
     requires { ⌜ x < span size ⌝ }
     ensures { λ r. ⌜ r ≡ negated size x ⌝ }
@@ -45,6 +49,7 @@ fn negate(size: Size, x: u16) -> Outcome
     Outcome::with_result(size, value, overflow, value != 0)
 }
 
+// ADC: the carry added.
 fn add_carry(size: Size, x: u16, c: bool) -> Outcome
     requires { ⌜ x < span size ⌝ }
     ensures { λ r. ⌜ r ≡ carry-added size x c ⌝ }
@@ -54,14 +59,13 @@ fn add_carry(size: Size, x: u16, c: bool) -> Outcome
     Outcome::with_result(size, value, overflow, c && value == 0)
 }
 
+// SBC: the carry taken away.
 fn subtract_carry(size: Size, x: u16, c: bool) -> Outcome
     requires { ⌜ x < span size ⌝ }
     ensures { λ r. ⌜ r ≡ carry-taken size x c ⌝ }
 {
-    let value = width::reduced(
-        size,
-        x as u32 + width::span_of(size) - if c { 1 } else { 0 },
-    );
+    let less = width::span_of(size) - if c { 1 } else { 0 };
+    let value = width::reduced(size, x as u32 + less);
     let overflow = width::is_negative(size, x) && !width::is_negative(size, value);
     Outcome::with_result(size, value, overflow, c && x == 0)
 }
@@ -73,6 +77,7 @@ fn move_bits(size: Size, value: u16, out: bool) -> Outcome
     Outcome::with_result(size, value, width::is_negative(size, value) != out, out)
 }
 
+// ROR: carry and operand, as one number, moved right; the carry comes in on the left.
 fn rotate_right(size: Size, x: u16, c: bool) -> Outcome
     requires { ⌜ x < span size ⌝ }
     ensures { λ r. ⌜ r ≡ rotated-right size x c ⌝ }
@@ -81,16 +86,14 @@ fn rotate_right(size: Size, x: u16, c: bool) -> Outcome
     move_bits(size, width::reduced(size, joined / 2), x % 2 == 1)
 }
 
+// ROL: operand and carry, as one number, moved left; the carry comes in on the right.
 fn rotate_left(size: Size, x: u16, c: bool) -> Outcome
     requires { ⌜ x < span size ⌝ }
     ensures { λ r. ⌜ r ≡ rotated-left size x c ⌝ }
 {
     let joined = 2 * x as u32 + if c { 1 } else { 0 };
-    move_bits(
-        size,
-        width::reduced(size, joined),
-        width::is_negative(size, x),
-    )
+    let value = width::reduced(size, joined);
+    move_bits(size, value, width::is_negative(size, x))
 }
 
 // What an operation makes of an operand that its size holds, and of the old carry.
@@ -120,10 +123,6 @@ pub fn single(operation: SingleOperation, size: Size, operand: u16, flags: Flags
     ensures outcome { λ r. ⌜ r ≡ single-outcome operation size operand flags ⌝ }
     ensures held { λ r. ⌜ Holds size r ⌝ }
 {
-    operate(
-        operation,
-        size,
-        width::reduced(size, operand as u32),
-        flags.c,
-    )
+    let x = width::reduced(size, operand as u32);
+    operate(operation, size, x, flags.c)
 }

@@ -13,7 +13,7 @@ pub struct Outcome {
 }
 
 // N and Z as they follow from a result, with these V and C.
-pub fn flags_after(size: Size, value: u16, v: bool, c: bool) -> Flags
+pub(crate) fn flags_after(size: Size, value: u16, v: bool, c: bool) -> Flags
     ensures { λ r. ⌜ r ≡ flagged size value v c ⌝ }
 {
     Flags {
@@ -26,7 +26,7 @@ pub fn flags_after(size: Size, value: u16, v: bool, c: bool) -> Flags
 
 impl Outcome {
     // A result with its flags.
-    pub fn with_result(size: Size, value: u16, v: bool, c: bool) -> Outcome
+    pub(crate) fn with_result(size: Size, value: u16, v: bool, c: bool) -> Outcome
         ensures { λ r. ⌜ r ≡ result size value v c ⌝ }
     {
         Outcome {
@@ -36,7 +36,7 @@ impl Outcome {
     }
 
     // The flags of a result that is not kept.
-    pub fn flags_only(size: Size, value: u16, v: bool, c: bool) -> Outcome
+    pub(crate) fn flags_only(size: Size, value: u16, v: bool, c: bool) -> Outcome
         ensures { λ r. ⌜ r ≡ flags-only size value v c ⌝ }
     {
         Outcome {

@@ -10,17 +10,14 @@ use crate::width;
 use isa::DoubleOperation;
 use isa::Size;
 
+// CMP: the flags of source minus destination.
 fn compare(size: Size, s: u16, d: u16) -> Outcome
     requires { ⌜ s < span size ⌝ ∗ ⌜ d < span size ⌝ }
     ensures { λ r. ⌜ r ≡ compared size s d ⌝ }
 {
     let value = width::subtracted(size, s, d);
-    Outcome::flags_only(
-        size,
-        value,
-        width::difference_overflows(size, s, d, value),
-        s < d,
-    )
+    let overflow = width::difference_overflows(size, s, d, value);
+    Outcome::flags_only(size, value, overflow, s < d)
 }
 
 // What an operation makes of operands that its size holds, and of the old carry.

@@ -2,7 +2,7 @@
 ghost use Prim.Native.Nat.{_%_, _<_, _≤_};
 ghost use mathlib.Core.Path.{_≡_};
 ghost use Rattle.arithmetic.specs.Doubles.{difference, difference-outside};
-ghost use Rattle.arithmetic.specs.Widths.{span, half, negative as sign};
+ghost use Rattle.arithmetic.specs.Widths.{span, negative};
 use isa::Size;
 
 // How many numbers there are of a size.
@@ -29,7 +29,7 @@ pub fn reduced(size: Size, number: u32) -> u16
 
 // Whether the sign bit is set.
 pub fn is_negative(size: Size, number: u16) -> bool
-    ensures { λ r. ⌜ r ≡ sign size number ⌝ }
+    ensures { λ r. ⌜ r ≡ negative size number ⌝ }
 {
     match size {
         Size::Word => number >= 0o100000,

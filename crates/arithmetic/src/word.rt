@@ -1,22 +1,20 @@
-// The operations that exist for words alone, MFPS, and the sign of a byte.
+// The operations that exist for words alone.
 ghost use mathlib.Core.Path.{_≡_};
-ghost use Rattle.arithmetic.specs.Widths.{spread};
-ghost use Rattle.arithmetic.specs.Words.{add-outcome, subtract-outcome, exclusive-or-outcome, swap-outcome, extend-outcome, from-status-outcome};
+ghost use Rattle.arithmetic.specs.Words.{add-outcome, subtract-outcome, exclusive-or-outcome, swap-outcome, extend-outcome};
 use crate::flags::Flags;
 use crate::outcome::Outcome;
 use crate::outcome::flags_after;
 use crate::width;
 use isa::Size;
 
-const SIGN: u16 = 0o100000;
-
-// ADD: source plus destination.
+// ADD: source plus destination; overflow where both have one sign and the sum the other.
 pub fn add(source: u16, destination: u16) -> Outcome
     ensures { λ r. ⌜ r ≡ add-outcome source destination ⌝ }
 {
     let value = source.wrapping_add(destination);
-    let alike = (source >= SIGN) == (destination >= SIGN);
-    let overflow = alike && (value >= SIGN) != (source >= SIGN);
+    let sign = width::is_negative(Size::Word, source);
+    let alike = width::is_negative(Size::Word, destination) == sign;
+    let overflow = alike && width::is_negative(Size::Word, value) != sign;
     Outcome::with_result(Size::Word, value, overflow, value < source)
 }
 
@@ -53,19 +51,4 @@ pub fn sign_extend(flags: Flags) -> Outcome
 {
     let value = if flags.n { 0o177777 } else { 0 };
     Outcome::with_result(Size::Word, value, false, flags.c)
-}
-
-// MFPS: the low byte of the status word, as it was before these flags.
-pub fn from_status(status: u16) -> Outcome
-    ensures { λ r. ⌜ r ≡ from-status-outcome status ⌝ }
-{
-    Outcome::with_result(Size::Byte, status % 256, false, Flags::of_status(status).c)
-}
-
-// The sign of the low byte spread over a word.
-pub fn sign_spread(byte: u16) -> u16
-    ensures { λ r. ⌜ r ≡ spread byte ⌝ }
-{
-    let low = byte % 256;
-    if low >= 0o200 { low + 0o177400 } else { low }
 }

@@ -1,4 +1,6 @@
+use mathlib.Core.Path.{sym, ap, _∙_}
 use native.Mathlib.Omega.{arith}
+use lib.Bits.{bitXor, xor-assoc, xor-self, xor-zero-l}
 use Rattle.std.proofs.shelf.Signed.{ints}
 use Rattle.std.proofs.shelf.Ways.{tells}
 use Rattle.isa.specs.declared.instruction.Size.{Size}
@@ -8,7 +10,7 @@ use Rattle.arithmetic.specs.Laws.{Undoing, Carrying, Exactness, Comparing, Kee
 use Rattle.arithmetic.specs.Singles.{single-outcome}
 use Rattle.arithmetic.specs.Status.{flags-of, with-flags}
 use Rattle.arithmetic.specs.Widths.{spread}
-use Rattle.arithmetic.specs.Words.{add-outcome, subtract-outcome, swap-outcome}
+use Rattle.arithmetic.specs.Words.{add-outcome, subtract-outcome, exclusive-or-outcome, swap-outcome}
 use Rattle.arithmetic.proofs.laws.arithmetic_laws.Needs as need
 
 -- what holds of words and of bytes holds of each size
@@ -17,10 +19,11 @@ by-size P w b Word = w
 by-size P w b Byte = b
 
 undoing : Undoing
-unfolding add-outcome subtract-outcome swap-outcome single-outcome
+unfolding add-outcome subtract-outcome exclusive-or-outcome swap-outcome single-outcome
 undoing =
     record {
       subtraction-undoes-addition = λ s d p q. omega arith;
+      exclusive-or-twice = λ s d p q f g. sym (xor-assoc s s d) ∙ ap (λ n. bitXor n d) (xor-self s) ∙ xor-zero-l d;
       swap-twice = λ x p. omega arith;
       negation-twice = by-size _ (λ x f p. omega arith) (λ x f p. omega arith);
       complement-twice = by-size _ (λ x f p. omega arith) (λ x f p. omega arith);
@@ -48,6 +51,8 @@ exactness =
       sum = λ s d p q v. grind (arith, ints, tells);
       difference = λ s d p q v. grind (arith, ints, tells);
       negative = by-size _ (λ x f p v. grind (arith, ints, tells)) (λ x f p v. grind (arith, ints, tells));
+      carry-added = by-size _ (λ x f p v. grind (arith, ints, tells)) (λ x f p v. grind (arith, ints, tells));
+      carry-taken = by-size _ (λ x f p v. grind (arith, ints, tells)) (λ x f p v. grind (arith, ints, tells));
       half = by-size _ (λ x f p. grind (arith, ints, tells)) (λ x f p. grind (arith, ints, tells));
       double = λ x f p. grind (arith, ints, tells);
     }
@@ -58,6 +63,7 @@ comparing =
     record {
       as-subtraction = λ s d p q f. grind (arith, ints, tells);
       equal = by-size _ (λ s d f p q. grind (arith, tells)) (λ s d f p q. grind (arith, tells));
+      different = by-size _ (λ s d f p q. grind (arith, tells)) (λ s d f p q. grind (arith, tells));
       less = by-size _ (λ s d f p q. grind (arith, ints, tells)) (λ s d f p q. grind (arith, ints, tells));
       less-or-equal = by-size _ (λ s d f p q. grind (arith, ints, tells)) (λ s d f p q. grind (arith, ints, tells));
       greater = by-size _ (λ s d f p q. grind (arith, ints, tells)) (λ s d f p q. grind (arith, ints, tells));

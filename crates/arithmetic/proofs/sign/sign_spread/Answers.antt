@@ -1,6 +1,6 @@
 use borrow.Author.Needs.{needs}
 use Rattle.arithmetic.specs.Widths.{spread}
-use Rattle.arithmetic.proofs.word.sign_spread.Needs as need
+use Rattle.arithmetic.proofs.sign.sign_spread.Needs as need
 
 pub returns-then-low-ge128 : need.returns-then-low-ge128
 unfolding spread

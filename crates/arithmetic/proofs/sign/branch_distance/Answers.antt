@@ -1,8 +1,7 @@
-use borrow.Author.Needs.{needs}
 use native.Mathlib.Omega.{arith}
-use Rattle.std.proofs.shelf.Signed.{ints, toZ-ofZ}
+use Rattle.std.proofs.shelf.Signed.{ints}
 use Rattle.arithmetic.specs.Widths.{branch-distance}
-use Rattle.arithmetic.proofs.branch.branch_distance.Needs as need
+use Rattle.arithmetic.proofs.sign.branch_distance.Needs as need
 
 pub returns-then-twice-lt0 : need.returns-then-twice-lt0
 unfolding branch-distance
