@@ -2,6 +2,7 @@ pub mod Widths
 pub mod Status
 pub mod Outcomes
 pub mod Singles
+pub mod Sums
 pub mod Doubles
 pub mod Words
 pub mod Branches

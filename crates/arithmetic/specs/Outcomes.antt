@@ -28,6 +28,10 @@ result size r v c = record { value = Some r; flags = flagged size r v c }
 abbrev pub flags-only : Size → ℕ → Bool → Bool → Outcome
 flags-only size r v c = record { value = None; flags = flagged size r v c }
 
+-- the result r of an operation on single bits: V 0, C kept
+abbrev pub logical : Size → ℕ → Bool → Outcome
+logical size r c = result size r false c
+
 -- a result, where there is one, is a number of this size
 abbrev pub Holds : Size → Outcome → Type 0
 Holds size o = Cases (o .value) (Unit {0}) (λ r. r < span size)

@@ -1,5 +1,5 @@
 -- Numbers of the two sizes, unsigned and signed.
-use Prim.Native.Nat.{ℕ, suc, _-_, _%_}
+use Prim.Native.Nat.{ℕ, suc, _+_, _-_, _*_, _%_}
 use lib.Dec.{leb}
 use lib.IntN.{ℤ, pos, negsuc, negℤ, _+ℤ_, _-ℤ_}
 use lib.Signed.{ltZ, leZ}
@@ -33,6 +33,10 @@ outside size z = ltZ z (negℤ (pos (half size))) || leZ (pos (half size)) z
 abbrev pub standing : Size → ℤ → ℕ
 standing size (pos n) = n
 standing size (negsuc n) = span size - suc n
+
+-- the word of a high and a low byte
+abbrev pub joined : ℕ → ℕ → ℕ
+joined high low = high * 256 + low
 
 -- the word that stands for the same signed number as the low byte of x
 unfoldable pub spread : ℕ → ℕ

@@ -6,6 +6,7 @@ pub mod one_operand;
 pub mod outcome;
 pub mod sign;
 pub mod status;
+mod sums;
 pub mod two_operands;
 mod width;
 pub mod word;

@@ -1,6 +1,6 @@
 // What an operation leaves.
 ghost use mathlib.Core.Path.{_≡_};
-ghost use Rattle.arithmetic.specs.Outcomes.{flagged, result, flags-only};
+ghost use Rattle.arithmetic.specs.Outcomes.{flagged, result, logical, flags-only};
 use crate::flags::Flags;
 use crate::width;
 use isa::Size;
@@ -33,6 +33,13 @@ impl Outcome {
             value: Some(value),
             flags: flags_after(size, value, v, c),
         }
+    }
+
+    // A result of an operation on single bits: no overflow, the carry kept.
+    pub(crate) fn logical(size: Size, value: u16, c: bool) -> Outcome
+        ensures { λ r. ⌜ r ≡ logical size value c ⌝ }
+    {
+        Outcome::with_result(size, value, false, c)
     }
 
     // The flags of a result that is not kept.

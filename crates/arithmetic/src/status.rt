@@ -5,6 +5,7 @@ ghost use Rattle.arithmetic.specs.Status.{with-low-byte, from-status-outcome, 
 ghost use Rattle.isa.specs.declared.instruction.Size.the-variants.{Byte};
 use crate::flags::Flags;
 use crate::outcome::Outcome;
+use crate::width;
 use isa::FlagChange;
 use isa::FlagMask;
 use isa::Size;
@@ -13,7 +14,7 @@ use isa::Size;
 pub fn to_status(status: u16, operand: u16) -> u16
     ensures { λ r. ⌜ r ≡ with-low-byte status operand ⌝ }
 {
-    status / 256 * 256 + operand % 256
+    width::join(status / 256, operand % 256)
 }
 
 // MFPS: the low byte of the status word, as it was before these flags.
@@ -21,7 +22,7 @@ pub fn from_status(status: u16) -> Outcome
     ensures outcome { λ r. ⌜ r ≡ from-status-outcome status ⌝ }
     ensures held { λ r. ⌜ Holds Byte r ⌝ }
 {
-    Outcome::with_result(Size::Byte, status % 256, false, Flags::of_status(status).c)
+    Outcome::logical(Size::Byte, status % 256, Flags::of_status(status).c)
 }
 
 // The flag words: the flags of the mask cleared or set, the others kept.

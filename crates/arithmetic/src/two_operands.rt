@@ -6,6 +6,7 @@ ghost use Rattle.arithmetic.specs.Outcomes.{Holds};
 ghost use Rattle.arithmetic.specs.Widths.{span};
 use crate::flags::Flags;
 use crate::outcome::Outcome;
+use crate::sums;
 use crate::width;
 use isa::DoubleOperation;
 use isa::Size;
@@ -15,9 +16,10 @@ fn compare(size: Size, s: u16, d: u16) -> Outcome
     requires { ⌜ s < span size ⌝ ∗ ⌜ d < span size ⌝ }
     ensures { λ r. ⌜ r ≡ compared size s d ⌝ }
 {
-    let value = width::subtracted(size, s, d);
-    let overflow = width::difference_overflows(size, s, d, value);
-    Outcome::flags_only(size, value, overflow, s < d)
+    Outcome {
+        value: None,
+        flags: sums::difference(size, s, d).flags,
+    }
 }
 
 // What an operation makes of operands that its size holds, and of the old carry.
@@ -27,14 +29,14 @@ fn operate(operation: DoubleOperation, size: Size, s: u16, d: u16, c: bool) -> O
     ensures held { λ r. ⌜ Holds size r ⌝ }
 {
     match operation {
-        DoubleOperation::Mov => Outcome::with_result(size, s, false, c),
+        DoubleOperation::Mov => Outcome::logical(size, s, c),
         DoubleOperation::Cmp => compare(size, s, d),
         DoubleOperation::Bit => Outcome::flags_only(size, s & d, false, c),
         DoubleOperation::Bic => {
             let others = width::reduced(size, !s as u32);
-            Outcome::with_result(size, d & others, false, c)
+            Outcome::logical(size, d & others, c)
         }
-        DoubleOperation::Bis => Outcome::with_result(size, d | s, false, c),
+        DoubleOperation::Bis => Outcome::logical(size, width::joined_bits(size, d, s), c),
     }
 }
 

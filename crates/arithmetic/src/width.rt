@@ -1,12 +1,15 @@
 // Numbers of the two sizes: how many there are, and which have the sign.
 ghost use Prim.Native.Nat.{_%_, _<_, _≤_};
+ghost use lib.Bits.{bitOr};
+ghost use lib.IntN.{pos, negℤ};
+ghost use lib.Signed.{_≤ℤ_, _<ℤ_};
 ghost use mathlib.Core.Path.{_≡_};
-ghost use Rattle.arithmetic.specs.Doubles.{difference, difference-outside};
-ghost use Rattle.arithmetic.specs.Widths.{span, negative};
+ghost use Rattle.isa.specs.declared.instruction.Size.the-variants.{Word};
+ghost use Rattle.arithmetic.specs.Widths.{span, negative, joined, standing};
 use isa::Size;
 
 // How many numbers there are of a size.
-pub fn span_of(size: Size) -> u32
+pub(crate) fn span_of(size: Size) -> u32
     ensures value { λ r. ⌜ r ≡ span size ⌝ }
     ensures bound { λ r. ⌜ r ≤ 65536 ⌝ }
 {
@@ -17,7 +20,7 @@ pub fn span_of(size: Size) -> u32
 }
 
 // What a place of this size holds of a number: its low bits.
-pub fn reduced(size: Size, number: u32) -> u16
+pub(crate) fn reduced(size: Size, number: u32) -> u16
     ensures value { λ r. ⌜ r ≡ number % span size ⌝ }
     ensures below { λ r. ⌜ r < span size ⌝ }
 {
@@ -28,7 +31,7 @@ pub fn reduced(size: Size, number: u32) -> u16
 }
 
 // Whether the sign bit is set.
-pub fn is_negative(size: Size, number: u16) -> bool
+pub(crate) fn is_negative(size: Size, number: u16) -> bool
     ensures { λ r. ⌜ r ≡ negative size number ⌝ }
 {
     match size {
@@ -37,19 +40,31 @@ pub fn is_negative(size: Size, number: u16) -> bool
     }
 }
 
-// The difference a - b, of which it gives what the size holds.
-pub fn subtracted(size: Size, a: u16, b: u16) -> u16
-    requires { ⌜ a < span size ⌝ ∗ ⌜ b < span size ⌝ }
-    ensures value { λ r. ⌜ r ≡ difference size a b ⌝ }
-    ensures below { λ r. ⌜ r < span size ⌝ }
+// The word of a high and a low byte.
+pub(crate) fn join(high: u16, low: u16) -> u16
+    requires { ⌜ high < 256 ⌝ ∗ ⌜ low < 256 ⌝ }
+    ensures { λ r. ⌜ r ≡ joined high low ⌝ }
 {
-    reduced(size, a as u32 + (span_of(size) - b as u32))
+    high * 256 + low
 }
 
-// Whether the signed difference a - b is out of range: the operands differ in sign, and the difference has the sign of b.
-pub fn difference_overflows(size: Size, a: u16, b: u16, value: u16) -> bool
-    requires { ⌜ a < span size ⌝ ∗ ⌜ b < span size ⌝ ∗ ⌜ value ≡ difference size a b ⌝ }
-    ensures { λ r. ⌜ r ≡ difference-outside size a b ⌝ }
+// The word that stands for a signed number that a word can stand for.
+pub(crate) fn word_standing_for(number: i32) -> u16
+    requires { ⌜ negℤ (pos 0o100000) ≤ℤ number ⌝ ∗ ⌜ number <ℤ pos 0o100000 ⌝ }
+    ensures { λ r. ⌜ r ≡ standing Word number ⌝ }
 {
-    is_negative(size, a) != is_negative(size, b) && is_negative(size, value) == is_negative(size, b)
+    if number < 0 {
+        (number + 65536) as u16
+    } else {
+        number as u16
+    }
+}
+
+// The bits of two numbers of this size.
+pub(crate) fn joined_bits(size: Size, a: u16, b: u16) -> u16
+    requires { ⌜ a < span size ⌝ ∗ ⌜ b < span size ⌝ }
+    ensures value { λ r. ⌜ r ≡ bitOr a b ⌝ }
+    ensures below { λ r. ⌜ r < span size ⌝ }
+{
+    a | b
 }

@@ -103,7 +103,7 @@ fn sized_named(stem: &str, size: Size) -> Option<Operation> {
 }
 
 impl Operation {
-    pub fn named(name: &str) -> Option<Operation> {
+    pub(crate) fn named(name: &str) -> Option<Operation> {
         if let Some(operation) = other_named(name) {
             return Some(operation);
         }

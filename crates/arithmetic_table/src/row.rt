@@ -59,7 +59,7 @@ fn plain(value: u16, flags: Flags) -> Outcome {
 }
 
 impl Row {
-    pub fn parse(line: &str) -> Option<Row> {
+    pub(crate) fn parse(line: &str) -> Option<Row> {
         let mut fields = line.split_whitespace();
         let operation = Operation::named(fields.next()?)?;
         let source = octal(fields.next()?)?;
@@ -124,7 +124,7 @@ impl Row {
     }
 
     // Whether the library leaves what the row says.
-    pub fn agrees(self) -> bool {
+    pub(crate) fn agrees(self) -> bool {
         let outcome = self.answer();
         outcome.value == self.result && outcome.flags.put_into(0) == self.flags
     }
