@@ -6,11 +6,12 @@ use lib.Signed.{ltZ, leZ}
 use mathlib.Core.Bool.{Bool, false, not}
 use mathlib.Core.Path.{_≡_}
 use Rattle.std.specs.Options.{valueOr}
+use Rattle.std.specs.declared.option.Option.the-variants.{None}
 use Rattle.isa.specs.declared.instruction.Size.{Size}
 use Rattle.isa.specs.declared.instruction.Size.the-variants.{Word, Byte}
 use Rattle.isa.specs.declared.instruction.SingleOperation.{SingleOperation}
-use Rattle.isa.specs.declared.instruction.SingleOperation.the-variants.{Com, Inc, Dec, Neg, Adc, Sbc, Ror, Rol, Asr, Asl}
-use Rattle.isa.specs.declared.instruction.DoubleOperation.the-variants.{Cmp}
+use Rattle.isa.specs.declared.instruction.SingleOperation.the-variants.{Com, Inc, Dec, Neg, Adc, Sbc, Tst, Ror, Rol, Asr, Asl}
+use Rattle.isa.specs.declared.instruction.DoubleOperation.the-variants.{Mov, Cmp, Bit}
 use Rattle.isa.specs.declared.instruction.Condition.{Condition}
 use Rattle.isa.specs.declared.instruction.Condition.the-variants.{Bne, Beq, Bge, Blt, Bgt, Ble, Bhi, Blos, Bcc, Bcs}
 use Rattle.arithmetic.specs.declared.flags.Flags.{Flags}
@@ -111,3 +112,10 @@ pub record Keeping : Type 0 where
   pub own-flags-change-nothing : (status : ℕ) → with-flags status (flags-of status) ≡ status
   pub other-bits-stay : (status : ℕ) (f : Flags) → with-flags status f / 16 ≡ status / 16
   pub spread-keeps-value : (b : ℕ) → b < span Byte → signed Word (spread b) ≡ signed Byte b
+
+-- TST, CMP and BIT have no result, and MOV makes nothing of its destination
+pub record Reading : Type 0 where
+  pub test : Operands (λ size x f. single-outcome Tst size x f .value ≡ None)
+  pub compare : Pairs (λ size s d f. double-outcome Cmp size s d f .value ≡ None)
+  pub bit-test : Pairs (λ size s d f. double-outcome Bit size s d f .value ≡ None)
+  pub move : (size : Size) (s d e : ℕ) (f : Flags) → double-outcome Mov size s d f ≡ double-outcome Mov size s e f

@@ -1,4 +1,4 @@
-use mathlib.Core.Path.{sym, ap, _∙_}
+use mathlib.Core.Path.{refl, sym, ap, _∙_}
 use native.Mathlib.Omega.{arith}
 use lib.Bits.{bitXor, xor-assoc, xor-self, xor-zero-l}
 use Rattle.std.proofs.shelf.Signed.{ints}
@@ -6,7 +6,7 @@ use Rattle.std.proofs.shelf.Ways.{tells}
 use Rattle.isa.specs.declared.instruction.Size.{Size}
 use Rattle.isa.specs.declared.instruction.Size.the-variants.{Word, Byte}
 use Rattle.arithmetic.specs.Doubles.{double-outcome}
-use Rattle.arithmetic.specs.Laws.{Undoing, Carrying, Exactness, Comparing, Keeping}
+use Rattle.arithmetic.specs.Laws.{Undoing, Carrying, Exactness, Comparing, Keeping, Reading}
 use Rattle.arithmetic.specs.Singles.{single-outcome}
 use Rattle.arithmetic.specs.Status.{flags-of, with-flags}
 use Rattle.arithmetic.specs.Widths.{spread}
@@ -84,6 +84,23 @@ keeping =
       spread-keeps-value = λ b p. grind (arith, ints, tells);
     }
 
+reading : Reading
+unfolding single-outcome double-outcome
+reading =
+    record {
+      test = λ size x f p. refl;
+      compare = λ size s d f p q. refl;
+      bit-test = λ size s d f p q. refl;
+      move = λ size s d e f. refl;
+    }
+
 pub returns : need.returns
 returns c =
-    record { undoing = undoing; carrying = carrying; exactness = exactness; comparing = comparing; keeping = keeping }
+    record {
+      undoing = undoing;
+      carrying = carrying;
+      exactness = exactness;
+      comparing = comparing;
+      keeping = keeping;
+      reading = reading;
+    }
