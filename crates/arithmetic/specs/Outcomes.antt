@@ -2,7 +2,6 @@
 use Prim.Native.Nat.{ℕ, _<_}
 use lib.Dec.{eqb}
 use mathlib.Core.Bool.{Bool, true, false, not}
-use Rattle.std.specs.declared.option.Option.{Option}
 use Rattle.std.specs.declared.option.Option.the-variants.{Some, None}
 use Rattle.std.specs.Options.{Cases}
 use Rattle.isa.specs.declared.instruction.Size.{Size}

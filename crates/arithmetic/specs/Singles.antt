@@ -1,6 +1,6 @@
 -- The operations of one operand, in the order of their codes. x is below the span of the size; c is the old carry.
 use Prim.Native.Nat.{ℕ, _+_, _-_, _*_, _/_, _%_}
-use lib.Dec.{eqb, leb}
+use lib.Dec.{eqb}
 use lib.IntN.{pos, negℤ, _+ℤ_, _-ℤ_}
 use mathlib.Core.Bool.{Bool, true, false, not, _&&_}
 use Rattle.isa.specs.declared.instruction.Size.{Size}
