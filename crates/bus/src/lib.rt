@@ -1,6 +1,15 @@
 // What the processor speaks to: memory boards and cabinet sides.
+pub mod access;
+pub mod board;
+pub mod cabinet;
 pub mod exchange;
 
+pub use access::load;
+pub use access::store;
+pub use access::store_byte;
+pub use board::Board;
+pub use board::PAGE;
+pub use cabinet::Cabinet;
 pub use exchange::Exchange;
 pub use exchange::Gone;
 pub use exchange::Reply;

@@ -1,0 +1,5 @@
+pub mod Memory
+pub mod Exchanges
+pub mod Courses
+pub mod Feeds
+pub mod Accesses
