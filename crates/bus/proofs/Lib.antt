@@ -1,0 +1,3 @@
+pub mod Requests
+pub mod Feeding
+pub mod Bounds
