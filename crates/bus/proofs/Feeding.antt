@@ -31,7 +31,7 @@ more-answers q m v [] w h = no-bool h
 more-answers q m v (e ∷ t) w h = go (same (e .request) q) h
   where
     go : (b : Bool) → lost? (cond {A = Out Reply} b (Ok (e .reply), m, v + 1, t) (Err gone, m, v, e ∷ t) .0) ≡ false
-       → cond {A = Out Reply} b (Ok (e .reply), m, v + 1, t ++ w) (Err gone, m, v, e ∷ (t ++ w)) ≡ ext w (cond {A = Out Reply} b (Ok (e .reply), m, v + 1, t) (Err gone, m, v, e ∷ t))
+        → cond {A = Out Reply} b (Ok (e .reply), m, v + 1, t ++ w) (Err gone, m, v, e ∷ (t ++ w)) ≡ ext w (cond {A = Out Reply} b (Ok (e .reply), m, v + 1, t) (Err gone, m, v, e ∷ t))
     go true k = refl
     go false k = no-bool k
 
@@ -53,7 +53,7 @@ more (puts at x) m v t w h = refl
 more (puts-byte at x) m v t w h = refl
 more (bind p f) m v t w h =
     more-onto (λ y. feed (f y)) w (λ y m v t h. more (f y) m v t w h) (feed p m v (t ++ w)) (feed p m v t .0) (feed p m v t .1) (feed p m v t .2) (feed p m v t .3)
-      (λ l. more p m v t w l) h
+    (λ l. more p m v t w l) h
 
 -- exchanges made after exchanges made
 pub made-on : {S : Type 0} (means : Meaning S) (becomes : Becoming S) (l : Bool)
@@ -75,18 +75,28 @@ has-bind means becomes p f m s (Ok y) l t r k u i j g =
     let o = j y g in
     let es = i .0 in
     let fs = o .0 in
-    let F : _ → Memory → ℕ → List Exchange → Out _ = λ y. feed (f y) in
-    (es ++ fs, (made-on means becomes (lost? r) es fs s t u (i .1 .0) (o .1 .0),
-      λ v. let e : feed p m v (es ++ fs) ≡ (Ok y, l, v + length es, fs) =
-               more p m v es fs (ap (λ z. lost? (z .0)) (i .1 .1 v)) ∙ ap (ext fs) (i .1 .1 v) in
-           ap (λ z. onto F (z .0) (z .1) (z .2) (z .3)) e ∙ (o .1 .1 (v + length es) ∙ out refl refl (omega (arith, length-append es fs)) refl), lawful-on es fs (i .1 .2) (o .1 .2)))
+    let F : _ → Memory → ℕ → List Exchange → Out _ = λ y. feed (f y) in (
+      es ++ fs,
+      (
+        made-on means becomes (lost? r) es fs s t u (i .1 .0) (o .1 .0),
+        λ v. let e : feed p m v (es ++ fs) ≡ (Ok y, l, v + length es, fs) =
+            more p m v es fs (ap (λ z. lost? (z .0)) (i .1 .1 v)) ∙ ap (ext fs) (i .1 .1 v) in
+            ap (λ z. onto F (z .0) (z .1) (z .2) (z .3)) e ∙ (o .1 .1 (v + length es) ∙ out refl refl (omega (arith, length-append es fs)) refl),
+        lawful-on es fs (i .1 .2) (o .1 .2),
+      ),
+    )
 has-bind means becomes p f m s (Err h) l t r k u i j g =
     let es = i .0 in
     let F : _ → Memory → ℕ → List Exchange → Out _ = λ y. feed (f y) in
     let P : _ → Type 0 = λ z. Made means becomes s es (lost? z) u in
-    let Q : _ → Type 0 = λ w. Made means becomes s es true w in
-    (es, (subst P (sym (g .0)) (subst Q (g .2) (i .1 .0)),
-      λ v. ap (λ z. onto F (z .0) (z .1) (z .2) (z .3)) (i .1 .1 v) ∙ out (sym (g .0)) (g .1) refl refl, i .1 .2))
+    let Q : _ → Type 0 = λ w. Made means becomes s es true w in (
+      es,
+      (
+        subst P (sym (g .0)) (subst Q (g .2) (i .1 .0)),
+        λ v. ap (λ z. onto F (z .0) (z .1) (z .2) (z .3)) (i .1 .1 v) ∙ out (sym (g .0)) (g .1) refl refl,
+        i .1 .2,
+      ),
+    )
 
 has : {S X : Type 0} (means : Meaning S) (becomes : Becoming S)
     (p : Act X) (m : Memory) (s : S) (r : Result X Gone) (k : Memory) (u : S) → Plays means becomes p m s r k u → Has means becomes p m s r k u
@@ -102,7 +112,7 @@ has means becomes (puts-byte at w) m s (Ok y) k u h = ([], (h .2, λ v. out (sym
 has means becomes (puts-byte at w) m s (Err g) k u h = no-bool (ap lost? (h .0))
 has means becomes (bind p f) m s r k u h =
     has-bind means becomes p f m s (h .0) (h .1 .0) (h .1 .1 .0) r k u (has means becomes p m s (h .0) (h .1 .0) (h .1 .1 .0) (h .1 .1 .1 .0))
-      (λ y g. has means becomes (f y) (h .1 .0) (h .1 .1 .0) r k u g) (h .1 .1 .1 .1)
+    (λ y g. has means becomes (f y) (h .1 .0) (h .1 .1 .0) r k u g) (h .1 .1 .1 .1)
 
 -- a course that was played has its exchanges: fed with exactly these it ends the same
 pub played-has : {S X : Type 0} {means : Meaning S} {becomes : Becoming S} {p : Act X} {m : Memory} {s : S} {r : Result X Gone} {k : Memory} {u : S}

@@ -1,3 +1,5 @@
 pub mod Requests
 pub mod Feeding
 pub mod Bounds
+pub mod Noting
+pub mod Tapping

@@ -3,3 +3,4 @@ pub mod Exchanges
 pub mod Courses
 pub mod Feeds
 pub mod Accesses
+pub mod Taps

@@ -3,6 +3,8 @@ pub mod access;
 pub mod board;
 pub mod cabinet;
 pub mod exchange;
+pub mod notes;
+pub mod tap;
 
 pub use access::load;
 pub use access::store;
@@ -14,3 +16,6 @@ pub use exchange::Exchange;
 pub use exchange::Gone;
 pub use exchange::Reply;
 pub use exchange::Request;
+pub use notes::Notes;
+pub use tap::Tap;
+pub use tap::TapCabinet;
