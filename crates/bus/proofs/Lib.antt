@@ -3,3 +3,4 @@ pub mod Feeding
 pub mod Bounds
 pub mod Noting
 pub mod Tapping
+pub mod Halves

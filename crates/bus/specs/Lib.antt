@@ -4,3 +4,4 @@ pub mod Courses
 pub mod Feeds
 pub mod Accesses
 pub mod Taps
+pub mod Boards
