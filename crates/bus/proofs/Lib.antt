@@ -4,3 +4,4 @@ pub mod Bounds
 pub mod Noting
 pub mod Tapping
 pub mod Halves
+pub mod Flatness

@@ -5,3 +5,6 @@ pub mod Feeds
 pub mod Accesses
 pub mod Taps
 pub mod Boards
+pub mod Refusals
+pub mod Panels
+pub mod Promises

@@ -3,7 +3,7 @@ ghost use mathlib.Core.Path.{_≡_};
 ghost use mathlib.Core.Bool.{true};
 ghost use Prim.Native.Nat.{_+_, _*_, _/_, _<_};
 ghost use lib.ListN.{getD};
-ghost use Rattle.bus.specs.Memory.{opened, word-of};
+ghost use Rattle.bus.specs.Memory.{opened, with-half, word-of};
 ghost use Rattle.bus.specs.Boards.{held, put, whole, with-byte, with-word};
 
 // The word of that number, if both its bytes are there.
@@ -41,4 +41,15 @@ pub(crate) fn put_byte(bytes: &mut [u8], at: u16, byte: u8) -> Option<()>
     };
     bytes[at as usize] = byte;
     Some(())
+}
+
+// A word with one half replaced: the low half if `at` is even.
+pub(crate) fn with_half(old: u16, at: u16, byte: u8) -> u16
+    ensures { λ r. ⌜ r ≡ with-half at byte old ⌝ }
+{
+    if at % 2 == 0 {
+        old / 256 * 256 + byte as u16
+    } else {
+        byte as u16 * 256 + old % 256
+    }
 }
