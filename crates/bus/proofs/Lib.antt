@@ -5,3 +5,4 @@ pub mod Noting
 pub mod Tapping
 pub mod Halves
 pub mod Flatness
+pub mod Serving

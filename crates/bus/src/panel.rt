@@ -75,11 +75,7 @@ impl Panel {
     pub fn set(&mut self, words: [u16; 64], lines: LineBits, vector: u16)
         ensures { λ _. ⌜ now (self .exit) ≡ record { words = words; lines = lines; vector = vector } ⌝ }
     {
-        *self = Panel {
-            words,
-            lines,
-            vector,
-        };
+        *self = Panel::new(words, lines, vector);
     }
 
     // The word at an address of the page.
