@@ -1,11 +1,12 @@
 // The forms of a line: a mnemonic, and what stands behind it.
 ghost use mathlib.Core.Path.{_≡_};
+ghost use mathlib.Core.Bool.{cond};
 ghost use mathlib.Core.List.{_++_};
 ghost use Prim.Native.Nat.{_+_, _≤_};
 ghost use lib.ListN.{length};
 ghost use Rattle.listing.specs.Shown.{shown};
 ghost use Rattle.listing.specs.Names.{registerName, byteMark};
-ghost use Rattle.listing.specs.Text.{octal, operandText, behind, pair, operandsText};
+ghost use Rattle.listing.specs.Text.{octal, operandText, behind, pair, operandsText, takesWord};
 use crate::names::byte_mark;
 use crate::names::register_name;
 use crate::operands::takes_word;
@@ -13,6 +14,13 @@ use crate::text_line::Line;
 use isa::Operand;
 use isa::Register;
 use isa::Size;
+
+// The index word that the destination may take: the first, or the second where the source takes the first.
+fn destination_word(source: Operand, first: u16, second: u16) -> u16
+    ensures { λ r. ⌜ r ≡ cond (takesWord source) second first ⌝ }
+{
+    if takes_word(source) { second } else { first }
+}
 
 impl Line {
     // A mnemonic alone.
@@ -87,7 +95,7 @@ impl Line {
         line
     }
 
-    // Two operands; the second takes the first index word that the source leaves.
+    // Two operands.
     pub(crate) fn operands(
         mut self,
         source: Operand,
@@ -101,7 +109,7 @@ impl Line {
         self.put(" ");
         self.put_operand(source, first);
         self.put(",");
-        self.put_operand(destination, if takes_word(source) { second } else { first });
+        self.put_operand(destination, destination_word(source, first, second));
         self
     }
 }
