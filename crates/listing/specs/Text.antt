@@ -1,31 +1,20 @@
 -- The text of an instruction.
-use Prim.Native.Nat.{ℕ, suc, _+_, _-_, _*_, _/_, _%_}
-use mathlib.Core.Bool.{Bool, true, false, cond}
+use Prim.Native.Nat.{ℕ, _+_, _-_, _*_, _/_, _%_}
+use mathlib.Core.Bool.{cond}
 use mathlib.Core.List.{List, [], _∷_, _++_}
-use lib.ListN.{getD, length, drop}
+use lib.ListN.{getD}
 use lib.Chars.{codes}
-use lib.Dec.{eqb, ltb}
+use lib.Dec.{eqb}
 use lib.IntN.{ℤ, pos, negsuc}
-use Rattle.isa.specs.declared.operand.Register.{Register}
-use Rattle.isa.specs.declared.operand.Register.the-variants.{R0, R1, R2, R3, R4, R5, Sp, Pc}
 use Rattle.isa.specs.declared.operand.Operand.{Operand}
 use Rattle.isa.specs.declared.operand.Operand.the-variants.{Direct, Deferred, Increment, IncrementDeferred, Decrement, DecrementDeferred, Index, IndexDeferred}
 use Rattle.isa.specs.declared.instruction.Instruction.{Instruction}
+use Rattle.isa.specs.Further.{isPc, takesWord}
 use Rattle.listing.specs.Names.{registerName, controlName, singleName, doubleName, conditionName, byteMark}
 
 -- six octal digits
 abbrev pub octal : ℕ → List ℕ
 octal n = (48 + n / 0o100000) ∷ (48 + n / 0o10000 % 8) ∷ (48 + n / 0o1000 % 8) ∷ (48 + n / 0o100 % 8) ∷ (48 + n / 0o10 % 8) ∷ (48 + n % 8) ∷ []
-
-abbrev pub isPc : Register → Bool
-isPc R0 = false
-isPc R1 = false
-isPc R2 = false
-isPc R3 = false
-isPc R4 = false
-isPc R5 = false
-isPc Sp = false
-isPc Pc = true
 
 -- an operand, with the index word that it may take
 abbrev pub operandText : Operand → ℕ → List ℕ
@@ -46,17 +35,6 @@ branchTarget address (negsuc n) = (address + 2 + 65536 - 2 * (n + 1)) % 65536
 -- SOB counts words back from the word behind it
 abbrev pub loopTarget : ℕ → ℕ → ℕ
 loopTarget address n = (address + 2 + 65536 - 2 * n) % 65536
-
--- whether an operand takes an index word
-abbrev pub takesWord : Operand → Bool
-takesWord (Direct r) = false
-takesWord (Deferred r) = false
-takesWord (Increment r) = isPc r
-takesWord (IncrementDeferred r) = isPc r
-takesWord (Decrement r) = false
-takesWord (DecrementDeferred r) = false
-takesWord (Index r) = true
-takesWord (IndexDeferred r) = true
 
 -- a mnemonic, a space and what stands behind it
 abbrev pub behind : List ℕ → List ℕ → List ℕ

@@ -4,12 +4,12 @@ ghost use mathlib.Core.Bool.{cond};
 ghost use mathlib.Core.List.{_++_};
 ghost use Prim.Native.Nat.{_+_, _≤_};
 ghost use lib.ListN.{length};
+ghost use Rattle.isa.specs.Further.{takesWord};
 ghost use Rattle.listing.specs.Shown.{shown};
 ghost use Rattle.listing.specs.Names.{registerName, byteMark};
-ghost use Rattle.listing.specs.Text.{octal, operandText, behind, pair, operandsText, takesWord};
+ghost use Rattle.listing.specs.Text.{octal, operandText, behind, pair, operandsText};
 use crate::names::byte_mark;
 use crate::names::register_name;
-use crate::operands::takes_word;
 use crate::text_line::Line;
 use isa::Operand;
 use isa::Register;
@@ -19,7 +19,7 @@ use isa::Size;
 fn destination_word(source: Operand, first: u16, second: u16) -> u16
     ensures { λ r. ⌜ r ≡ cond (takesWord source) second first ⌝ }
 {
-    if takes_word(source) { second } else { first }
+    if source.takes_word() { second } else { first }
 }
 
 impl Line {

@@ -1,13 +1,12 @@
 // Listing an instruction into the caller's bytes.
 ghost use mathlib.Core.Path.{_≡_};
-ghost use Rattle.listing.specs.Listing.{indexWords, wordsUsed, text, listing, output};
+ghost use Prim.Native.Nat.{_≤_};
+ghost use lib.ListN.{length};
+ghost use Rattle.listing.specs.Listing.{text, listing, output};
 ghost use Rattle.listing.specs.Shown.{shown};
 use crate::instructions::instruction_line;
-use crate::operands::takes_word;
 use crate::refusal::Refusal;
 use crate::text_line::Line;
-use isa::Instruction;
-use isa::Operand;
 use isa::decode;
 
 // The fewest bytes that the output of a listing has.
@@ -20,37 +19,10 @@ pub struct Listed {
     pub words: usize,
 }
 
-fn index_words(operand: Operand) -> usize
-    ensures { λ r. ⌜ r ≡ indexWords operand ⌝ }
-{
-    if takes_word(operand) { 1 } else { 0 }
-}
-
-// How many words an instruction has, its index words with it.
-fn words_used(instruction: Instruction) -> usize
-    ensures { λ r. ⌜ r ≡ wordsUsed instruction ⌝ }
-{
-    match instruction {
-        Instruction::Jump(operand)
-        | Instruction::SwapBytes(operand)
-        | Instruction::Call(_, operand)
-        | Instruction::Single(_, _, operand)
-        | Instruction::SignExtend(operand)
-        | Instruction::ToStatus(operand)
-        | Instruction::FromStatus(operand)
-        | Instruction::ExclusiveOr(_, operand) => 1 + index_words(operand),
-        Instruction::Double(_, _, source, destination)
-        | Instruction::Add(source, destination)
-        | Instruction::Subtract(source, destination) => 1
-            + index_words(source)
-            + index_words(destination),
-        _ => 1,
-    }
-}
-
 // The line of the instruction that three words begin with, at an address.
-pub(crate) fn line_of(address: u16, words: [u16; 3]) -> Line
-    ensures { λ r. ⌜ shown r ≡ text address words ⌝ }
+pub fn line_of(address: u16, words: [u16; 3]) -> Line
+    ensures written { λ r. ⌜ shown r ≡ text address words ⌝ }
+    ensures fits { λ _. ⌜ length (text address words) ≤ 28 ⌝ }
 {
     instruction_line(address, words, decode(words[0]))
 }
@@ -64,6 +36,6 @@ pub fn list(address: u16, words: [u16; 3], out: &mut [u8]) -> Result<Listed, Ref
         return Err(Refusal::ShortOutput);
     }
     let length = line_of(address, words).copy_to(out);
-    let words = words_used(decode(words[0]));
+    let words = 1 + decode(words[0]).further_words() as usize;
     Ok(Listed { length, words })
 }

@@ -5,7 +5,7 @@ ghost use Prim.Native.Nat.{_+_, _≤_};
 ghost use lib.ListN.{length};
 ghost use Rattle.listing.specs.Shown.{shown};
 ghost use Rattle.listing.specs.Names.{registerName};
-ghost use Rattle.listing.specs.Text.{operandText, takesWord};
+ghost use Rattle.listing.specs.Text.{operandText};
 use crate::names::register_name;
 use crate::text_line::Line;
 use isa::Operand;
@@ -54,16 +54,5 @@ impl Line {
                 self.put_around("(", register, ")");
             }
         }
-    }
-}
-
-// Whether an operand takes the next word.
-pub fn takes_word(operand: Operand) -> bool
-    ensures { λ r. ⌜ r ≡ takesWord operand ⌝ }
-{
-    match operand {
-        Operand::Increment(Register::Pc) | Operand::IncrementDeferred(Register::Pc) => true,
-        Operand::Index(_) | Operand::IndexDeferred(_) => true,
-        _ => false,
     }
 }

@@ -71,4 +71,11 @@ impl Line {
         out[0..length].copy_from_slice(&self.bytes[0..length]);
         length
     }
+
+    // The text that stands in the line.
+    pub fn as_bytes(&self) -> &[u8]
+        ensures { λ r. ⌜ now r ≡ shown (now (self .entry)) ⌝ }
+    {
+        &self.bytes[0..self.length]
+    }
 }
