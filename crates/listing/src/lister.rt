@@ -31,11 +31,13 @@ pub fn line_of(address: u16, words: [u16; 3]) -> Line
 pub fn list(address: u16, words: [u16; 3], out: &mut [u8]) -> Result<Listed, Refusal>
     ensures answer { λ r. ⌜ r ≡ listing address words (now (out .entry)) ⌝ }
     ensures written { λ _. ⌜ now (out .exit) ≡ output address words (now (out .entry)) ⌝ }
+    ensures fits { λ _. ⌜ length (text address words) ≤ 28 ⌝ }
 {
+    let line = line_of(address, words);
     if out.len() < LONGEST_LINE {
         return Err(Refusal::ShortOutput);
     }
-    let length = line_of(address, words).copy_to(out);
+    let length = line.copy_to(out);
     let words = 1 + decode(words[0]).further_words() as usize;
     Ok(Listed { length, words })
 }

@@ -1,0 +1,5 @@
+mod FieldsBack
+mod Opening
+mod OperandsBack
+mod Round
+mod Shown

@@ -1,0 +1,5 @@
+pub mod Back
+pub mod Candidate
+pub mod Fields
+pub mod Mnemonics
+pub mod Operands

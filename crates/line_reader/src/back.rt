@@ -1,0 +1,55 @@
+// Reading a line back: the words that it is the listing of.
+ghost use mathlib.Core.Path.{_≡_};
+ghost use mathlib.Core.List.{List};
+ghost use Prim.Native.Nat.{ℕ};
+ghost use Rattle.listing.specs.Listing.{text};
+ghost use Rattle.line_reader.specs.Back.{Words, Answers, readAs};
+use crate::candidates::candidate_in;
+use listing::Refusal;
+use listing::list;
+use listing::lister::LONGEST_LINE;
+use listing::lister::line_of;
+
+// The words that a line shows, then zeros; beside a refusal all are zero.
+#[derive(Clone, Copy)]
+pub struct ReadBack {
+    pub words: [u16; 3],
+    pub refusal: Option<Refusal>,
+}
+
+// Reads a line that is the listing of some words at `address`; any other is refused.
+pub fn read_back(address: u16, line: &[u8]) -> ReadBack
+    ensures answers { λ r. ⌜ Answers address (now (line .entry)) (r .words) (r .refusal) ⌝ }
+    ensures finds { λ r. ⌜ ((words : List ℕ) → Words words → text address words ≡ now (line .entry) → r ≡ readAs words) ⌝ }
+{
+    let words = candidate_in(address, line);
+    let again = line_of(address, words);
+    if again.as_bytes() == line {
+        ReadBack {
+            words,
+            refusal: None,
+        }
+    } else {
+        ReadBack {
+            words: [0; 3],
+            refusal: Some(Refusal::NoListing),
+        }
+    }
+}
+
+// Lists words and reads the listing back: it gives the words that were used, then zeros.
+pub fn list_and_read_back(address: u16, words: [u16; 3]) -> ReadBack
+    ensures { λ r. ⌜ r ≡ readAs words ⌝ }
+{
+    let mut out = [0; LONGEST_LINE];
+    match list(address, words, &mut out) {
+        Ok(listed) => {
+            let length = listed.length;
+            read_back(address, &out[0..length])
+        }
+        Err(refusal) => ReadBack {
+            words: [0; 3],
+            refusal: Some(refusal),
+        },
+    }
+}
