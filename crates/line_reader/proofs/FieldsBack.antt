@@ -17,7 +17,7 @@ use Rattle.isa_laws.specs.OneReading.{inByte}
 use Rattle.isa_laws.proofs.Digits.{offset-at}
 use Rattle.listing.specs.Names.{registerName}
 use Rattle.listing.specs.Text.{octal, branchTarget, loopTarget}
-use Rattle.line_reader.specs.Fields.{digitIn, numberIn, numberOf, registerIn, offsetTo, countTo}
+use Rattle.line_reader.specs.Fields.{digitIn, numberIn, registerIn, offsetTo, countTo}
 
 pub digit-back : (x : ℕ) → x < 8 → digitIn (48 + x) ≡ x
 digit-back x h = grind (arith, tells)

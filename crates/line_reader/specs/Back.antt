@@ -35,11 +35,24 @@ pub record Lists (address : ℕ) (line words : List ℕ) : Type 0 where
   pub listed : text address words ≡ line
   pub rest-zero : shownWords words ≡ words
 
--- there are no words that list to the line, and the words beside the refusal are zeros
+-- no words list to the line
+abbrev pub NoWords : ℕ → List ℕ → Type 0
+NoWords address line = (others : List ℕ) → Words others → text address others ≡ line → ⊥
+
+-- what is found for a line: words that it lists, and whatever words it lists are those; or that there are none
+pub record Only (address : ℕ) (line words : List ℕ) : Type 0 where
+  pub lists : Lists address line words
+  pub only : (others : List ℕ) → Words others → text address others ≡ line → words ≡ shownWords others
+
+abbrev pub Found : ℕ → List ℕ → Option (List ℕ) → Type 0
+Found address line (Some words) = Only address line words
+Found address line None = NoWords address line
+
+-- the words beside the refusal are zeros, and no words list to the line
 pub record Refuses (address : ℕ) (line words : List ℕ) (refusal : Refusal) : Type 0 where
   pub number : refusal ≡ NoListing
   pub zeros : words ≡ 0 ∷ 0 ∷ 0 ∷ []
-  pub none : (others : List ℕ) → Words others → text address others ≡ line → ⊥
+  pub none : NoWords address line
 
 -- what an answer says of the line: its words, or that there are none
 abbrev pub Answers : ℕ → List ℕ → List ℕ → Option Refusal → Type 0

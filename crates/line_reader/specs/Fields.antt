@@ -32,12 +32,14 @@ registerIn s = registerOf (getD s 0 0) (getD s 1 0)
 abbrev pub digitIn : ℕ → ℕ
 digitIn c = cond (leb 48 c && leb c 55) (c - 48) 0
 
-abbrev pub numberOf : ℕ → ℕ → ℕ → ℕ → ℕ → ℕ → ℕ
-numberOf a b c d e f =
-    (digitIn a * 0o100000 + digitIn b * 0o10000 + digitIn c * 0o1000 + digitIn d * 0o100 + digitIn e * 0o10 + digitIn f) % 65536
+-- one more octal digit
+abbrev pub withDigit : ℕ → ℕ → ℕ
+withDigit n c = (n * 0o10 + digitIn c) % 65536
 
 unfoldable pub numberIn : List ℕ → ℕ
-numberIn s = numberOf (getD s 0 0) (getD s 1 0) (getD s 2 0) (getD s 3 0) (getD s 4 0) (getD s 5 0)
+numberIn s =
+    withDigit (withDigit (withDigit (withDigit (withDigit (withDigit 0
+    (getD s 0 0)) (getD s 1 0)) (getD s 2 0)) (getD s 3 0)) (getD s 4 0)) (getD s 5 0)
 
 abbrev pub sizeIn : List ℕ → Size
 sizeIn s = cond (eqb (getD s 3 0) 66) Byte Word

@@ -2,8 +2,9 @@
 ghost use mathlib.Core.Path.{_≡_};
 ghost use mathlib.Core.List.{List};
 ghost use Prim.Native.Nat.{ℕ};
+ghost use Rattle.std.specs.Orderings.{Decides};
 ghost use Rattle.listing.specs.Listing.{text};
-ghost use Rattle.line_reader.specs.Back.{Words, Answers, readAs};
+ghost use Rattle.line_reader.specs.Back.{Words, Found, Answers, readAs};
 use crate::candidates::candidate_in;
 use listing::Refusal;
 use listing::list;
@@ -17,23 +18,45 @@ pub struct ReadBack {
     pub refusal: Option<Refusal>,
 }
 
+fn same_bytes(left: &[u8], right: &[u8]) -> bool
+    ensures { λ r. ⌜ Decides r (now (left .entry) ≡ now (right .entry)) ⌝ }
+{
+    left == right
+}
+
+// Whether a line is the listing of words at an address.
+fn is_listing(address: u16, words: [u16; 3], line: &[u8]) -> bool
+    ensures { λ r. ⌜ Decides r (text address words ≡ now (line .entry)) ⌝ }
+{
+    same_bytes(line_of(address, words).as_bytes(), line)
+}
+
+// The words that a line is the listing of, if there are any.
+fn words_in(address: u16, line: &[u8]) -> Option<[u16; 3]>
+    ensures { λ r. ⌜ Found address (now (line .entry)) r ⌝ }
+{
+    let words = candidate_in(address, line);
+    if is_listing(address, words, line) {
+        Some(words)
+    } else {
+        None
+    }
+}
+
 // Reads a line that is the listing of some words at `address`; any other is refused.
 pub fn read_back(address: u16, line: &[u8]) -> ReadBack
     ensures answers { λ r. ⌜ Answers address (now (line .entry)) (r .words) (r .refusal) ⌝ }
     ensures finds { λ r. ⌜ ((words : List ℕ) → Words words → text address words ≡ now (line .entry) → r ≡ readAs words) ⌝ }
 {
-    let words = candidate_in(address, line);
-    let again = line_of(address, words);
-    if again.as_bytes() == line {
-        ReadBack {
+    match words_in(address, line) {
+        Some(words) => ReadBack {
             words,
             refusal: None,
-        }
-    } else {
-        ReadBack {
+        },
+        None => ReadBack {
             words: [0; 3],
             refusal: Some(Refusal::NoListing),
-        }
+        },
     }
 }
 

@@ -1,7 +1,7 @@
 // Registers, numbers and targets, read from the front of a text. Any text gives some value.
 ghost use mathlib.Core.Path.{_≡_};
 ghost use Prim.Native.Nat.{_<_};
-ghost use Rattle.line_reader.specs.Fields.{registerIn, digitIn, numberIn, sizeIn, offsetTo, countTo};
+ghost use Rattle.line_reader.specs.Fields.{registerIn, digitIn, withDigit, numberIn, sizeIn, offsetTo, countTo};
 use crate::characters::look;
 use isa::Register;
 use isa::Size;
@@ -31,17 +31,23 @@ fn digit_in(character: char) -> u32
     }
 }
 
+// A number with one more octal digit; what passes 16 bits is lost.
+fn with_digit(number: u16, character: char) -> u16
+    ensures { λ r. ⌜ r ≡ withDigit number character ⌝ }
+{
+    ((number as u32 * 0o10 + digit_in(character)) % 65536) as u16
+}
+
 // Six octal digits.
 pub fn number_in(text: &[u8]) -> u16
     ensures { λ r. ⌜ r ≡ numberIn (now (text .entry)) ⌝ }
 {
-    let number = digit_in(look(text, 0)) * 0o100000
-        + digit_in(look(text, 1)) * 0o10000
-        + digit_in(look(text, 2)) * 0o1000
-        + digit_in(look(text, 3)) * 0o100
-        + digit_in(look(text, 4)) * 0o10
-        + digit_in(look(text, 5));
-    (number % 65536) as u16
+    let first = with_digit(0, look(text, 0));
+    let second = with_digit(first, look(text, 1));
+    let third = with_digit(second, look(text, 2));
+    let fourth = with_digit(third, look(text, 3));
+    let fifth = with_digit(fourth, look(text, 4));
+    with_digit(fifth, look(text, 5))
 }
 
 // Whether a B stands behind a name of three letters.

@@ -1,4 +1,5 @@
-// Lists each row of a table, and compares the listing with the text that the row expects.
+// Lists each row of a table, compares the listing with the text that the row expects, and reads that text back.
+use line_reader::read_back;
 use listing::list;
 use listing::lister::LONGEST_LINE;
 use std::error::AnyError;
@@ -53,6 +54,15 @@ fn lists(row: &Row<'_>) -> bool {
     same
 }
 
+// Whether the row's text reads back as the words that it uses, then zeros.
+fn reads_back(row: &Row<'_>) -> bool {
+    let back = read_back(row.address, row.text.as_bytes());
+    let [word, first, second] = row.words;
+    let first = if row.used < 2 { 0 } else { first };
+    let second = if row.used < 3 { 0 } else { second };
+    back.refusal.is_none() && back.words == [word, first, second]
+}
+
 fn run(rt: &LibcRuntime) -> Result<(), AnyError> {
     let mut rows = 0u32;
     let mut wrong = 0u32;
@@ -62,7 +72,8 @@ fn run(rt: &LibcRuntime) -> Result<(), AnyError> {
             continue;
         }
         rows = rows.saturating_add(1);
-        if !lists(&read_row(line.as_str())?) {
+        let row = read_row(line.as_str())?;
+        if !lists(&row) || !reads_back(&row) {
             wrong = wrong.saturating_add(1);
             println!(rt, "not so: {line}")?;
         }

@@ -38,5 +38,5 @@ returns-in-Ok c =
     let fits : Words words = record { three = search needs; word-fits = f .fits; first-fits = g .fits; second-fits = h .fits } in
     let out = c .list .last .out in
     let shown : take (c .in-Ok .listed .length - 0) out ≡ t =
-      rw (sub-zero, n, e .written) (take-append-seam t _) in
+    rw (sub-zero, n, e .written) (take-append-seam t _) in
     c .read-back .ensures .finds words fits (sym shown)
