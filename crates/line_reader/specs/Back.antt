@@ -10,9 +10,9 @@ use Rattle.std.specs.declared.option.Option.the-variants.{Some, None}
 use Rattle.isa.specs.Further.{furtherWords}
 use Rattle.isa.specs.Reading.{reading}
 use Rattle.listing.specs.Listing.{text}
+use Rattle.listing.specs.Refused.{refusalNumber}
 use Rattle.listing.specs.Text.{word, first, second}
 use Rattle.listing.specs.declared.refusal.Refusal.{Refusal}
-use Rattle.listing.specs.declared.refusal.Refusal.the-variants.{NoListing}
 use Rattle.line_reader.specs.declared.back.ReadBack.{ReadBack}
 
 -- three words of 16 bits
@@ -48,9 +48,9 @@ abbrev pub Found : ℕ → List ℕ → Option (List ℕ) → Type 0
 Found address line (Some words) = Only address line words
 Found address line None = NoWords address line
 
--- the words beside the refusal are zeros, and no words list to the line
+-- the refusal is 16, the words beside it are zeros, and no words list to the line
 pub record Refuses (address : ℕ) (line words : List ℕ) (refusal : Refusal) : Type 0 where
-  pub number : refusal ≡ NoListing
+  pub sixteen : refusalNumber refusal ≡ 16
   pub zeros : words ≡ 0 ∷ 0 ∷ 0 ∷ []
   pub none : NoWords address line
 

@@ -101,7 +101,7 @@ fn two_words(name: TwoOperands, size: Size, text: &[u8]) -> [u16; 3]
     pair_words(name, size, source, destination)
 }
 
-pub fn candidate_in(address: u16, line: &[u8]) -> [u16; 3]
+pub(crate) fn candidate_in(address: u16, line: &[u8]) -> [u16; 3]
     ensures { λ r. ⌜ r ≡ candidate address (now (line .entry)) ⌝ }
 {
     let size = size_in(line);

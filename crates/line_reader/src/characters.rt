@@ -4,7 +4,7 @@ ghost use lib.ListN.{getD, drop};
 ghost use Rattle.line_reader.specs.Fields.{behindName};
 
 // The character at an index, or NUL past the end.
-pub fn look(line: &[u8], index: usize) -> char
+pub(crate) fn look(line: &[u8], index: usize) -> char
     ensures { λ r. ⌜ r ≡ getD (now (line .entry)) index 0 ⌝ }
 {
     if index < line.len() {
@@ -15,7 +15,7 @@ pub fn look(line: &[u8], index: usize) -> char
 }
 
 // What stands behind the first `count` characters.
-pub fn skip(line: &[u8], count: usize) -> &[u8]
+pub(crate) fn skip(line: &[u8], count: usize) -> &[u8]
     ensures { λ r. ⌜ now r ≡ drop count (now (line .entry)) ⌝ }
 {
     if count <= line.len() {
@@ -26,7 +26,7 @@ pub fn skip(line: &[u8], count: usize) -> &[u8]
 }
 
 // What stands behind the space after a name of two to five characters.
-pub fn behind_name(line: &[u8]) -> &[u8]
+pub(crate) fn behind_name(line: &[u8]) -> &[u8]
     ensures { λ r. ⌜ now r ≡ behindName (now (line .entry)) ⌝ }
 {
     match (look(line, 2), look(line, 3), look(line, 4)) {

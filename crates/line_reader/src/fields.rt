@@ -6,7 +6,7 @@ use crate::characters::look;
 use isa::Register;
 use isa::Size;
 
-pub fn register_in(text: &[u8]) -> Register
+pub(crate) fn register_in(text: &[u8]) -> Register
     ensures { λ r. ⌜ r ≡ registerIn (now (text .entry)) ⌝ }
 {
     match (look(text, 0), look(text, 1)) {
@@ -39,7 +39,7 @@ fn with_digit(number: u16, character: char) -> u16
 }
 
 // Six octal digits.
-pub fn number_in(text: &[u8]) -> u16
+pub(crate) fn number_in(text: &[u8]) -> u16
     ensures { λ r. ⌜ r ≡ numberIn (now (text .entry)) ⌝ }
 {
     let first = with_digit(0, look(text, 0));
@@ -51,7 +51,7 @@ pub fn number_in(text: &[u8]) -> u16
 }
 
 // Whether a B stands behind a name of three letters.
-pub fn size_in(line: &[u8]) -> Size
+pub(crate) fn size_in(line: &[u8]) -> Size
     ensures { λ r. ⌜ r ≡ sizeIn (now (line .entry)) ⌝ }
 {
     match look(line, 3) {
@@ -61,7 +61,7 @@ pub fn size_in(line: &[u8]) -> Size
 }
 
 // The offset of a branch at `address` to `target`, if one reaches it.
-pub fn offset_to(address: u16, target: u16) -> i8
+pub(crate) fn offset_to(address: u16, target: u16) -> i8
     ensures { λ r. ⌜ r ≡ offsetTo address target ⌝ }
 {
     let distance = target.wrapping_sub(address).wrapping_sub(2);
@@ -70,7 +70,7 @@ pub fn offset_to(address: u16, target: u16) -> i8
 }
 
 // The count of a SOB at `address` to `target`, if one reaches it.
-pub fn count_to(address: u16, target: u16) -> u8
+pub(crate) fn count_to(address: u16, target: u16) -> u8
     ensures { λ r. ⌜ r ≡ countTo address target ⌝ }
 {
     let distance = address.wrapping_add(2).wrapping_sub(target);

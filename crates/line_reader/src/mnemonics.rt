@@ -124,7 +124,7 @@ fn by_letter(first: char, second: char, third: char) -> Mnemonic
 }
 
 // The mnemonic at the front of a line.
-pub fn mnemonic_in(line: &[u8]) -> Mnemonic
+pub(crate) fn mnemonic_in(line: &[u8]) -> Mnemonic
     ensures { λ r. ⌜ r ≡ mnemonicIn (now (line .entry)) ⌝ }
 {
     by_letter(look(line, 0), look(line, 1), look(line, 2))

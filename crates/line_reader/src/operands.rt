@@ -41,7 +41,7 @@ fn behind_at(text: &[u8]) -> Parsed
     }
 }
 
-pub fn operand_in(text: &[u8]) -> Parsed
+pub(crate) fn operand_in(text: &[u8]) -> Parsed
     ensures value { λ r. ⌜ r ≡ operandIn (now (text .entry)) ⌝ }
     ensures short { λ r. ⌜ r .length ≤ 11 ⌝ }
 {

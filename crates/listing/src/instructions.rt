@@ -39,7 +39,7 @@ fn flag_line(word: u16) -> Line
 }
 
 // The line of three words at an address, the first of which says `instruction`.
-pub fn instruction_line(address: u16, words: [u16; 3], instruction: Instruction) -> Line
+pub(crate) fn instruction_line(address: u16, words: [u16; 3], instruction: Instruction) -> Line
     ensures { λ r. ⌜ shown r ≡ instructionText address words instruction ⌝ }
 {
     let [word, first, second] = words;

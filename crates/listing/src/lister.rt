@@ -2,7 +2,7 @@
 ghost use mathlib.Core.Path.{_≡_};
 ghost use Prim.Native.Nat.{_≤_};
 ghost use lib.ListN.{length};
-ghost use Rattle.listing.specs.Listing.{text, listing, output};
+ghost use Rattle.listing.specs.Listing.{text, listing, numbered, numbers, output};
 ghost use Rattle.listing.specs.Shown.{shown};
 use crate::instructions::instruction_line;
 use crate::refusal::Refusal;
@@ -30,6 +30,7 @@ pub fn line_of(address: u16, words: [u16; 3]) -> Line
 // Writes the listing of the instruction word and its index words, `words`, at the front of `out`.
 pub fn list(address: u16, words: [u16; 3], out: &mut [u8]) -> Result<Listed, Refusal>
     ensures answer { λ r. ⌜ r ≡ listing address words (now (out .entry)) ⌝ }
+    ensures in_numbers { λ r. ⌜ numbered r ≡ numbers address words (now (out .entry)) ⌝ }
     ensures written { λ _. ⌜ now (out .exit) ≡ output address words (now (out .entry)) ⌝ }
     ensures fits { λ _. ⌜ length (text address words) ≤ 28 ⌝ }
 {

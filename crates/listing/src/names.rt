@@ -10,7 +10,7 @@ use isa::Register;
 use isa::SingleOperation;
 use isa::Size;
 
-pub fn register_name(register: Register) -> &'static str
+pub(crate) fn register_name(register: Register) -> &'static str
     ensures text { λ r. ⌜ now r ≡ registerName register ⌝ }
     ensures size { λ r. ⌜ length (now r) ≡ 2 ⌝ }
 {
@@ -26,7 +26,7 @@ pub fn register_name(register: Register) -> &'static str
     }
 }
 
-pub fn control_name(control: Control) -> &'static str
+pub(crate) fn control_name(control: Control) -> &'static str
     ensures text { λ r. ⌜ now r ≡ controlName control ⌝ }
     ensures size { λ r. ⌜ length (now r) ≤ 5 ⌝ }
 {
@@ -41,7 +41,7 @@ pub fn control_name(control: Control) -> &'static str
     }
 }
 
-pub fn single_name(operation: SingleOperation) -> &'static str
+pub(crate) fn single_name(operation: SingleOperation) -> &'static str
     ensures text { λ r. ⌜ now r ≡ singleName operation ⌝ }
     ensures size { λ r. ⌜ length (now r) ≡ 3 ⌝ }
 {
@@ -61,7 +61,7 @@ pub fn single_name(operation: SingleOperation) -> &'static str
     }
 }
 
-pub fn double_name(operation: DoubleOperation) -> &'static str
+pub(crate) fn double_name(operation: DoubleOperation) -> &'static str
     ensures text { λ r. ⌜ now r ≡ doubleName operation ⌝ }
     ensures size { λ r. ⌜ length (now r) ≡ 3 ⌝ }
 {
@@ -74,7 +74,7 @@ pub fn double_name(operation: DoubleOperation) -> &'static str
     }
 }
 
-pub fn condition_name(condition: Condition) -> &'static str
+pub(crate) fn condition_name(condition: Condition) -> &'static str
     ensures text { λ r. ⌜ now r ≡ conditionName condition ⌝ }
     ensures size { λ r. ⌜ length (now r) ≤ 4 ⌝ }
 {
@@ -97,7 +97,7 @@ pub fn condition_name(condition: Condition) -> &'static str
     }
 }
 
-pub fn byte_mark(size: Size) -> &'static str
+pub(crate) fn byte_mark(size: Size) -> &'static str
     ensures text { λ r. ⌜ now r ≡ byteMark size ⌝ }
     ensures size { λ r. ⌜ length (now r) ≤ 1 ⌝ }
 {
