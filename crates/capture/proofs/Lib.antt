@@ -1,0 +1,4 @@
+pub mod Walks
+pub mod Feeding
+pub mod Matching
+pub mod Asking

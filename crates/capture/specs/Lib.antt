@@ -1,0 +1,12 @@
+pub mod Words
+pub mod Checksum
+pub mod Records
+pub mod Lawful
+pub mod Checking
+pub mod Remaining
+pub mod Exchanges
+pub mod Handed
+pub mod Feeds
+pub mod Blocks
+pub mod Layout
+pub mod Laws

@@ -1,0 +1,14 @@
+// Captures: cabinet exchanges as records in blocks of 512 bytes. Here bytes are checked, and what passed is read.
+pub mod block;
+pub mod checks;
+pub mod feed;
+pub mod reading;
+pub mod record;
+pub mod refusal;
+
+pub use checks::check;
+pub use checks::check_block;
+pub use checks::checksum;
+pub use feed::Feed;
+pub use record::Record;
+pub use refusal::Refusal;
