@@ -21,6 +21,7 @@ use Rattle.capture.specs.Records.{Entry, numbers, unnumbers, firstPlain, first
 use Rattle.capture.specs.Lawful.{lawful, fitsWithin}
 use Rattle.capture.specs.Checking.{Answer, oneRead, before, andThen, readThen, usedBytes, blockThen, readFrom, readCapture, wholeBlocks, entries, verdict}
 use Rattle.capture.specs.Remaining.{blockAt, remains}
+use Rattle.capture.proofs.Matching.{both-parts}
 use Rattle.capture.proofs.Walks.{read-at, read-more, block-then}
 
 ok-gate : (t : Bool) (x : Answer) (e : Refusal) → isOk (cond t x (Err e)) ≡ true → (t ≡ true) × (isOk x ≡ true)
@@ -125,10 +126,6 @@ here xs b at h o =
 ok-verdict : (r : Answer) → Ok tt ≡ verdict r → isOk r ≡ true
 ok-verdict (Ok ps) h = refl
 ok-verdict (Err e) h = absurd (false≢true (sym (ap (isOk {E = Refusal}) h)))
-
-both-parts : (x y : Bool) → both x y ≡ true → (x ≡ true) × (y ≡ true)
-both-parts true y h = (refl, h)
-both-parts false y h = absurd (false≢true h)
 
 -- what a passed check tells of a feed at the start
 pub record Checked (xs : List ℕ) : Type 0 where
@@ -260,3 +257,28 @@ all-lawful xs = gate-lawful (wholeBlocks (length xs)) (readFrom 0 (length xs / 5
 
 pub left-lawful : (xs : List ℕ) (b from : ℕ) → Lawfuls (remains xs b from)
 left-lawful xs b from = read-lawful 0 (drop from (usedBytes (blockAt xs b))) _ (blocks-lawful (b + 1) (length xs / 512 - (b + 1)) (drop (512 * (b + 1)) xs))
+
+rest-ok : (k : ℕ) (xs : List ℕ) (rest : Answer) → isOk (readThen k xs rest) ≡ true → isOk rest ≡ true
+rest-ok k [] rest h = h
+rest-ok zero (x ∷ xs) rest h = rest-ok (x + 3) xs rest (split-then (oneRead (x ∷ xs)) (readThen (x + 3) xs rest) h .1)
+rest-ok (suc k) (x ∷ xs) rest h = rest-ok k xs rest h
+
+-- where the blocks from number b on pass, each adds up to 0
+blocks-add-up : (k b j : ℕ) (xs : List ℕ) → isOk (readFrom b k xs) ≡ true → j < k → blockSum (blockAt xs j) ≡ 0
+blocks-add-up zero b j xs h lt = absurd (omega arith)
+blocks-add-up (suc k) b zero xs h lt =
+    let g1 = ok-gate (eqb (wordAt (take 512 xs) 0) b) _ Number h in
+    let g2 = ok-gate (leb (wordAt (take 512 xs) 2) 506) _ Used (g1 .1) in
+    eqb-true (blockSum (take 512 xs)) 0 (ok-gate (eqb (blockSum (take 512 xs)) 0) _ Checksum (g2 .1) .0)
+blocks-add-up (suc k) b (suc j) xs h lt =
+    let rest : Answer = readFrom (b + 1) k (drop 512 xs) in
+    let o : isOk rest ≡ true = rest-ok 0 (usedBytes (take 512 xs)) rest (sym (ap isOk (block-ok b (take 512 xs) rest h .same)) ∙ h) in
+    let e : 512 + 512 * j ≡ 512 * suc j = omega arith in
+    ap (λ (ys : List ℕ). blockSum (take 512 ys)) (ap (λ (i : ℕ). drop i xs) (sym e) ∙ sym (drop-drop (512 * j) 512 xs))
+    ∙ blocks-add-up k (b + 1) j (drop 512 xs) o (omega arith)
+
+pub capture-adds-up : (xs : List ℕ) (es : List Entry) → readCapture xs ≡ Ok es → (b : ℕ) → 512 * b < length xs → blockSum (blockAt xs b) ≡ 0
+capture-adds-up xs es h b lt =
+    let g = ok-gate (wholeBlocks (length xs)) (readFrom 0 (length xs / 512) xs) Blocks (ap isOk h) in
+    let w : length xs % 512 ≡ 0 = eqb-true (length xs % 512) 0 (both-parts (eqb (length xs % 512) 0) _ (g .0) .0) in
+    blocks-add-up (length xs / 512) 0 b xs (g .1) (omega arith)

@@ -1,4 +1,6 @@
 pub mod Walks
-pub mod Feeding
 pub mod Matching
+pub mod Feeding
 pub mod Asking
+pub mod Seals
+pub mod Rounds

@@ -2,6 +2,7 @@
 pub mod block;
 pub mod checks;
 pub mod feed;
+pub mod laws;
 pub mod reading;
 pub mod record;
 pub mod refusal;
@@ -10,5 +11,7 @@ pub use checks::check;
 pub use checks::check_block;
 pub use checks::checksum;
 pub use feed::Feed;
+pub use laws::captures_read_back;
+pub use laws::exchanges_are_records;
 pub use record::Record;
 pub use refusal::Refusal;
