@@ -1,0 +1,4 @@
+pub mod Opening
+pub mod Recording
+pub mod Noting
+pub mod Made
