@@ -10,3 +10,4 @@ pub mod Feeds
 pub mod Blocks
 pub mod Layout
 pub mod Laws
+pub mod Worked

@@ -85,7 +85,7 @@ fn ends_within(bytes: &[u8]) -> bool
 }
 
 // The questions of the record that the bytes begin with.
-fn check_record(bytes: &[u8]) -> Result<(), Refusal>
+pub fn check_record(bytes: &[u8]) -> Result<(), Refusal>
     ensures { λ r. ⌜ r ≡ verdict (oneRead (now (bytes .entry))) ⌝ }
 {
     if !ends_within(bytes) {
