@@ -15,7 +15,7 @@ use Rattle.capture.specs.declared.refusal.Refusal.the-variants.{Blocks, Number
 use Rattle.capture.specs.Words.{wordAt, both}
 use Rattle.capture.specs.Checksum.{blockSum}
 use Rattle.capture.specs.Records.{Entry}
-use Rattle.capture.specs.Checking.{Answer, oneRead, before, andThen, readThen, usedBytes, blockThen, readFrom, readCapture, wholeBlocks, verdict, blockAlone}
+use Rattle.capture.specs.Checking.{Answer, oneRead, before, andThen, readThen, usedBytes, blockThen, readFrom, readCapture, wholeBlocks, headAnswer, verdict, blockAlone}
 
 pub read-skip : (k : ℕ) (xs : List ℕ) (rest : Answer) → readThen k xs rest ≡ readThen 0 (drop k xs) rest
 read-skip zero xs rest = refl
@@ -99,3 +99,14 @@ block-then b xs rest e1 e2 e3 =
     cond-true (eqb (wordAt xs 0) b) _ (Err Number) (eq-eqb (wordAt xs 0) b e1)
     ∙ (cond-true (leb (wordAt xs 2) 506) _ (Err Used) (le-leb (wordAt xs 2) 506 e2)
     ∙ cond-true (eqb (blockSum xs) 0) _ (Err Checksum) (eq-eqb (blockSum xs) 0 e3))
+
+gates : (t u v : Bool) (x : Answer)
+    → verdict (cond t (cond u (cond v x (Err Checksum)) (Err Used)) (Err Number)) ≡ seq (cond t (cond u (cond v (Ok tt) (Err Checksum)) (Err Used)) (Err Number)) (verdict x)
+gates true true true x = refl
+gates true true false x = refl
+gates true false v x = refl
+gates false u v x = refl
+
+-- the questions before the records, and then the records
+pub head-then : (b : ℕ) (xs : List ℕ) → blockAlone b xs ≡ seq (headAnswer b (wordAt xs 0) (wordAt xs 2) (blockSum xs)) (verdict (readThen 0 (usedBytes xs) (Ok [])))
+head-then b xs = gates (eqb (wordAt xs 0) b) (leb (wordAt xs 2) 506) (eqb (blockSum xs) 0) (readThen 0 (usedBytes xs) (Ok []))

@@ -50,6 +50,11 @@ readThen (suc k) (x ∷ xs) rest = readThen k xs rest
 abbrev pub usedBytes : List ℕ → List ℕ
 usedBytes block = take (wordAt block 2) (drop 4 block)
 
+-- the questions of a block before its records, over what it has as number, used count and sum, where it should have number b
+abbrev pub headAnswer : ℕ → ℕ → ℕ → ℕ → Result Unit Refusal
+headAnswer b number used sum =
+    cond (eqb number b) (cond (leb used 506) (cond (eqb sum 0) (Ok tt) (Err Checksum)) (Err Used)) (Err Number)
+
 -- the questions of the block that should have number b, in their order, and then the rest
 abbrev pub blockThen : ℕ → List ℕ → Answer → Answer
 blockThen b block rest =

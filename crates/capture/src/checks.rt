@@ -7,8 +7,8 @@ ghost use Rattle.std.specs.declared.result.Result.the-variants.{Ok};
 ghost use Rattle.capture.specs.Words.{wordAt};
 ghost use Rattle.capture.specs.Records.{plain};
 ghost use Rattle.capture.specs.Lawful.{lawful, fitsWithin};
-ghost use Rattle.capture.specs.Checksum.{blockSum};
-ghost use Rattle.capture.specs.Checking.{oneRead, readThen, readCapture, verdict, blockAlone, blockVerdict};
+ghost use Rattle.capture.specs.Checksum.{partAt, blockSum};
+ghost use Rattle.capture.specs.Checking.{oneRead, readThen, headAnswer, wholeBlocks, readCapture, verdict, blockAlone, blockVerdict};
 use crate::block::AFTER_HEADER;
 use crate::block::BLOCK;
 use crate::block::LONGEST_HEADER;
@@ -37,18 +37,24 @@ pub(crate) fn word_at(bytes: &[u8], at: usize) -> u16
     word(bytes[at], bytes[at + 1])
 }
 
-// The sum of the words of a block: a byte at an odd place is a high half.
+// What a byte adds to the sum of words: at an odd place it is a high half.
+fn part_at(i: usize, byte: u8) -> u16
+    ensures { λ r. ⌜ r ≡ partAt i byte ⌝ }
+{
+    if i % 2 == 0 {
+        u16::from(byte)
+    } else {
+        u16::from(byte) * 256
+    }
+}
+
+// The sum of the words of a block.
 pub fn checksum(block: &[u8]) -> u16
     ensures { λ r. ⌜ r ≡ blockSum (now (block .entry)) ⌝ }
 {
     let mut sum: u16 = 0;
     for (i, b) in block.iter().enumerate() {
-        let part = if i % 2 == 0 {
-            u16::from(*b)
-        } else {
-            u16::from(*b) * 256
-        };
-        sum = sum.wrapping_add(part);
+        sum = sum.wrapping_add(part_at(i, *b));
     }
     sum
 }
@@ -115,6 +121,22 @@ fn check_records(bytes: &[u8]) -> Result<(), Refusal>
     Ok(())
 }
 
+// The questions of a block before its records.
+fn check_head(number: u16, found: u16, used: u16, sum: u16) -> Result<(), Refusal>
+    ensures { λ r. ⌜ r ≡ headAnswer number found used sum ⌝ }
+{
+    if found != number {
+        return Err(Refusal::Number);
+    }
+    if used > MOST_USED as u16 {
+        return Err(Refusal::Used);
+    }
+    if sum != 0 {
+        return Err(Refusal::Checksum);
+    }
+    Ok(())
+}
+
 // The questions of a whole block.
 fn check_whole_block(number: u16, block: &[u8]) -> Result<(), Refusal>
     requires { ⌜ length (now block) ≡ 512 ⌝ }
@@ -123,17 +145,14 @@ fn check_whole_block(number: u16, block: &[u8]) -> Result<(), Refusal>
     let [number_low, number_high, used_low, used_high, rest @ ..] = block else {
         return Err(Refusal::Blocks);
     };
-    if word(*number_low, *number_high) != number {
-        return Err(Refusal::Number);
-    }
-    let used = word(*used_low, *used_high) as usize;
-    if used > MOST_USED {
-        return Err(Refusal::Used);
-    }
-    if checksum(block) != 0 {
-        return Err(Refusal::Checksum);
-    }
-    check_records(&rest[0..used])
+    let used = word(*used_low, *used_high);
+    check_head(
+        number,
+        word(*number_low, *number_high),
+        used,
+        checksum(block),
+    )?;
+    check_records(&rest[0..used as usize])
 }
 
 // Whether these bytes are the block of that number: 512 bytes, and then what is asked of each block of a capture.
@@ -146,15 +165,22 @@ pub fn check_block(number: u16, block: &[u8]) -> Result<(), Refusal>
     check_whole_block(number, block)
 }
 
+// Whether so many bytes are 1 to 4,096 whole blocks.
+fn whole_blocks(size: usize) -> bool
+    ensures { λ r. ⌜ r ≡ wholeBlocks size ⌝ }
+{
+    size % BLOCK == 0 && size > 0 && size <= MOST_BLOCKS * BLOCK
+}
+
 // Whether these bytes are a capture; if not, the first reason.
 pub fn check(bytes: &[u8]) -> Result<(), Refusal>
     ensures { λ r. ⌜ r ≡ verdict (readCapture (now (bytes .entry))) ⌝ }
 {
-    let length = bytes.len();
-    if length % BLOCK != 0 || length == 0 || length > MOST_BLOCKS * BLOCK {
+    let size = bytes.len();
+    if !whole_blocks(size) {
         return Err(Refusal::Blocks);
     }
-    for b in 0..length / BLOCK {
+    for b in 0..size / BLOCK {
         check_whole_block(b as u16, &bytes[BLOCK * b..BLOCK * b + BLOCK])?;
     }
     Ok(())

@@ -6,7 +6,6 @@ ghost use Rattle.capture.specs.Records.{plain};
 ghost use Rattle.capture.specs.Exchanges.{markOf, answeredWord};
 ghost use Rattle.capture.specs.Handed.{shown};
 ghost use Rattle.inspect.specs.Texts.{kindText, markText, octalText, hexDigit, hexText};
-
 use bus::Reply;
 use capture::Record;
 
@@ -23,21 +22,61 @@ fn of_reply(kind: u8, address: u16, reply: Reply) -> Fields
     ensures { λ r. ⌜ plain (r .kind) (cond (r .answered) 1 0) (r .address) (r .word) ≡ plain kind (markOf reply) address (answeredWord reply) ⌝ }
 {
     match reply {
-        Reply::Answered(word) => Fields { kind, answered: true, address, word },
-        Reply::TimedOut => Fields { kind, answered: false, address, word: 0 },
+        Reply::Answered(word) => Fields {
+            kind,
+            answered: true,
+            address,
+            word,
+        },
+        Reply::TimedOut => Fields {
+            kind,
+            answered: false,
+            address,
+            word: 0,
+        },
     }
 }
 
-pub fn fields_of(record: Record) -> Fields
-    ensures { λ r. ⌜ plain (r .kind) (cond (r .answered) 1 0) (r .address) (r .word) ≡ shown (record .entry) ⌝ }
+pub fn fields_of(rec: Record) -> Fields
+    ensures { λ r. ⌜ plain (r .kind) (cond (r .answered) 1 0) (r .address) (r .word) ≡ shown (rec .entry) ⌝ }
 {
-    match record {
+    match rec {
         Record::Read { address, reply, .. } => of_reply(1, address, reply),
-        Record::Write { address, word, answered, .. } => Fields { kind: 2, answered, address, word },
-        Record::WriteByte { address, byte, answered, .. } => Fields { kind: 3, answered, address, word: u16::from(byte) },
-        Record::Lines { word, .. } => Fields { kind: 4, answered: true, address: 0, word },
+        Record::Write {
+            address,
+            word,
+            answered,
+            ..
+        } => Fields {
+            kind: 2,
+            answered,
+            address,
+            word,
+        },
+        Record::WriteByte {
+            address,
+            byte,
+            answered,
+            ..
+        } => Fields {
+            kind: 3,
+            answered,
+            address,
+            word: u16::from(byte),
+        },
+        Record::Lines { word, .. } => Fields {
+            kind: 4,
+            answered: true,
+            address: 0,
+            word,
+        },
         Record::Vector { reply, .. } => of_reply(5, 0, reply),
-        Record::Init { .. } => Fields { kind: 6, answered: true, address: 0, word: 0 },
+        Record::Init { .. } => Fields {
+            kind: 6,
+            answered: true,
+            address: 0,
+            word: 0,
+        },
     }
 }
 
@@ -79,7 +118,11 @@ fn hex_digit(digit: u8) -> u8
     requires { ⌜ digit < 16 ⌝ }
     ensures { λ r. ⌜ r ≡ hexDigit digit ⌝ }
 {
-    if digit < 10 { b'0' + digit } else { b'A' + (digit - 10) }
+    if digit < 10 {
+        b'0' + digit
+    } else {
+        b'A' + (digit - 10)
+    }
 }
 
 // A space and a byte in two hexadecimal digits.

@@ -7,7 +7,6 @@ ghost use Rattle.std.specs.Of.String.{string-bytes};
 ghost use Rattle.std.specs.Vec.{made};
 ghost use Rattle.capture.specs.Handed.{shown, addedOf};
 ghost use Rattle.inspect.specs.Texts.{bytesText, lineText};
-
 use crate::fields::fields_of;
 use crate::fields::hex;
 use crate::fields::kind_text;
@@ -39,10 +38,10 @@ fn push_bytes(line: &mut String, bytes: &[u8]) -> Result<(), AllocError>
 }
 
 // Number, kind, mark, address, word and added bytes of a record.
-pub fn record_line(heap: Global, number: usize, record: Record) -> Result<String, AllocError>
-    ensures { λ r. ⌜ made r (λ s. string-bytes s ≡ lineText number (shown (record .entry)) (addedOf (record .entry))) ⌝ }
+pub fn record_line(heap: Global, number: usize, rec: Record) -> Result<String, AllocError>
+    ensures { λ r. ⌜ made r (λ s. string-bytes s ≡ lineText number (shown (rec .entry)) (addedOf (rec .entry))) ⌝ }
 {
-    let fields = fields_of(record);
+    let fields = fields_of(rec);
     let kind = kind_text(fields.kind);
     let mark = mark_text(fields.answered);
     let mut line = format!(heap, "{number}: {kind}, {mark}, address ")?;
@@ -50,6 +49,6 @@ pub fn record_line(heap: Global, number: usize, record: Record) -> Result<String
     line.push_str(", word ")?;
     push_ascii(&mut line, &octal(fields.word))?;
     line.push_str(", added")?;
-    push_bytes(&mut line, record.added())?;
+    push_bytes(&mut line, rec.added())?;
     Ok(line)
 }

@@ -14,6 +14,7 @@ use std::alloc::Global;
 use std::fs;
 use std::io;
 use totals::Totals;
+use totals::TotalsDefault;
 
 const NAME: &str = "capture.cap";
 

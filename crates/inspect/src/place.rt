@@ -1,6 +1,6 @@
 // Where in a capture a refusal was found.
 ghost use mathlib.Core.Path.{_≡_};
-ghost use lib.ListN.{length};
+ghost use Prim.Native.Nat.{_≤_};
 ghost use Rattle.capture.specs.Checking.{usedBytes};
 ghost use Rattle.inspect.specs.Places.{recordFrom, refusedBlock, refusedByte};
 use capture::Refusal;
@@ -20,7 +20,8 @@ const LAST_WORD: usize = 510;
 
 // The first block that is refused, or how many there are.
 pub fn refused_block(bytes: &[u8]) -> usize
-    ensures { λ r. ⌜ r ≡ refusedBlock (now (bytes .entry)) ⌝ }
+    ensures value { λ r. ⌜ r ≡ refusedBlock (now (bytes .entry)) ⌝ }
+    ensures bound { λ r. ⌜ r ≤ 4096 ⌝ }
 {
     let blocks = (bytes.len() / BLOCK).min(MOST_BLOCKS);
     for b in 0..blocks {
@@ -49,10 +50,11 @@ fn refused_record(bytes: &[u8]) -> usize
 fn used_bytes<'a>(block: &'a [u8]) -> &'a [u8]
     ensures { λ r. ⌜ now r ≡ usedBytes (now (block .entry)) ⌝ }
 {
-    let [_, _, used_low, used_high, rest @ ..] = block else {
+    if block.len() < RECORDS {
         return &[];
-    };
-    let used = usize::from(*used_low) + 256 * usize::from(*used_high);
+    }
+    let used = usize::from(block[USED]) + 256 * usize::from(block[USED + 1]);
+    let rest = &block[RECORDS..];
     &rest[0..used.min(rest.len())]
 }
 

@@ -2,7 +2,6 @@
 ghost use mathlib.Core.Path.{_≡_};
 ghost use Rattle.capture.specs.Handed.{shown};
 ghost use Rattle.inspect.specs.Tallies.{counted};
-
 use crate::fields::Fields;
 use crate::fields::fields_of;
 use capture::Record;
@@ -21,10 +20,10 @@ pub struct Totals {
 
 impl Totals {
     // Counts one record more.
-    pub fn count(&mut self, record: Record)
-        ensures { λ _. ⌜ now (self .exit) ≡ counted (shown (record .entry)) (now (self .entry)) ⌝ }
+    pub fn count(&mut self, rec: Record)
+        ensures { λ _. ⌜ now (self .exit) ≡ counted (shown (rec .entry)) (now (self .entry)) ⌝ }
     {
-        let Fields { kind, answered, .. } = fields_of(record);
+        let Fields { kind, answered, .. } = fields_of(rec);
         match kind {
             1 => self.reads = self.reads.saturating_add(1),
             2 => self.writes = self.writes.saturating_add(1),

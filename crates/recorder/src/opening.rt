@@ -2,7 +2,7 @@
 ghost use mathlib.Core.Path.{_≡_};
 ghost use mathlib.Core.Bool.{cond};
 ghost use mathlib.Core.List.{[], _++_};
-ghost use Prim.Native.Nat.{_+_, _-_, _*_, _/_, _≤_};
+ghost use Prim.Native.Nat.{_+_, _-_, _*_, _/_, _%_, _≤_};
 ghost use lib.ListN.{length, take, drop, replicate};
 ghost use Rattle.std.specs.Results.{isOk};
 ghost use Rattle.capture.specs.Blocks.{sealed, unsealed, zerosAfter, blockBytes};
@@ -53,13 +53,20 @@ fn clear(bytes: &mut [u8])
     }
 }
 
+// The word that brings a sum to 0.
+fn balance(sum: u16) -> u16
+    ensures { λ r. ⌜ r ≡ (65536 - sum) % 65536 ⌝ }
+{
+    0u16.wrapping_sub(sum)
+}
+
 // Sets the last word, so that the block adds up to 0.
 fn seal(block: &mut [u8])
     requires { ⌜ length (now block) ≡ 512 ⌝ }
     ensures { λ _. ⌜ now (block .exit) ≡ sealed (take 510 (now (block .entry))) ⌝ }
 {
     let sum = checksum(&block[0..LAST_WORD]);
-    let [low, high] = 0u16.wrapping_sub(sum).to_le_bytes();
+    let [low, high] = balance(sum).to_le_bytes();
     block[LAST_WORD] = low;
     block[LAST_WORD + 1] = high;
 }

@@ -1,13 +1,10 @@
 use mathlib.Core.Path.{_≡_, sym, ap, _∙_}
 use mathlib.Core.List.{List, _++_, _∷_, []}
-use Prim.Native.Nat.{ℕ, _≤_}
+use Prim.Native.Nat.{ℕ, _-_, _%_, _≤_}
 use native.Mathlib.Omega.{arith}
-use lib.ListN.{length, take, drop, set}
+use lib.ListN.{length, take, drop, set, getD}
 use Rattle.std.proofs.shelf.Lists.{drop-all, append-nil}
 use Rattle.std.proofs.shelf.Edits.{sets-eq}
-use native.Mathlib.Nat.{zero-add}
-use Prim.Native.Nat.{_+_, _-_, _%_}
-use lib.ListN.{getD}
 use Rattle.capture.specs.Checksum.{blockSum}
 use Rattle.capture.specs.Blocks.{sealed}
 use Rattle.capture.specs.Words.{wordBytes}
@@ -25,8 +22,6 @@ unfolding sealed
 returns c =
     let b : List ℕ = c .args .block .now in
     let r : List ℕ = c .to-le-bytes .result in
-    let s : ℕ = c .checksum-sum .result in
-    let e1 : getD r 0 0 ∷ getD r 1 0 ∷ [] ≡ wordBytes ((0 + (65536 - s)) % 65536) = ap (λ (v : List ℕ). getD v 0 0 ∷ getD v 1 0 ∷ []) (c .to-le-bytes .ensures) in
-    let e2 : wordBytes ((0 + (65536 - s)) % 65536) ≡ wordBytes ((65536 - s) % 65536) = ap (λ (n : ℕ). wordBytes (n % 65536)) (zero-add (65536 - s)) in
-    let e3 : wordBytes ((65536 - s) % 65536) ≡ wordBytes ((65536 - blockSum (take 510 b)) % 65536) = ap (λ (n : ℕ). wordBytes ((65536 - n) % 65536)) (c .checksum-sum .ensures) in
-    last-two b (getD r 0 0) (getD r 1 0) (c .pre) ∙ ap (λ (t : List ℕ). take 510 b ++ t) (e1 ∙ (e2 ∙ e3))
+    let e : getD r 0 0 ∷ getD r 1 0 ∷ [] ≡ wordBytes (c .balance .result) = ap (λ (v : List ℕ). getD v 0 0 ∷ getD v 1 0 ∷ []) (c .to-le-bytes .ensures) in
+    let w : c .balance .result ≡ (65536 - blockSum (take 510 b)) % 65536 = c .balance .ensures ∙ ap (λ (n : ℕ). (65536 - n) % 65536) (c .checksum-sum .ensures) in
+    last-two b (getD r 0 0) (getD r 1 0) (c .pre) ∙ ap (λ (t : List ℕ). take 510 b ++ t) (e ∙ ap wordBytes w)
