@@ -8,6 +8,8 @@ use Rattle.bus.specs.declared.exchange.Gone.{Gone}
 use Rattle.bus.specs.Courses.{Act, done, bind}
 use Rattle.isa.specs.declared.operand.Register.{Register}
 use Rattle.isa.specs.declared.operand.Register.the-variants.{R0, R1, R2, R3, R4, R5, Sp, Pc}
+use Rattle.operands.specs.declared.state.Life.{Life}
+use Rattle.operands.specs.declared.state.Requests.{Requests}
 use Rattle.operands.specs.declared.state.Processor.{Processor}
 
 -- A word sum, and a word difference, wrap.
@@ -54,6 +56,22 @@ with-psw p w = record {
   waiting = p .waiting;
   life = p .life;
 }
+
+-- The state with another life, with the waiting mark set or cleared, and with other requests.
+abbrev pub with-life : Processor → Life → Processor
+with-life p l = record
+  { registers = p .registers; psw = p .psw; lines = p .lines; requests = p .requests
+  ; trace = p .trace; waiting = p .waiting; life = l }
+
+abbrev pub with-waiting : Processor → Bool → Processor
+with-waiting p b = record
+  { registers = p .registers; psw = p .psw; lines = p .lines; requests = p .requests
+  ; trace = p .trace; waiting = b; life = p .life }
+
+abbrev pub with-requests : Processor → Requests → Processor
+with-requests p q = record
+  { registers = p .registers; psw = p .psw; lines = p .lines; requests = q
+  ; trace = p .trace; waiting = p .waiting; life = p .life }
 
 -- A course's end beside the processor's state that it leaves.
 abbrev pub beside : {X : Type 0} → Result X Gone → Processor → Result (X × Processor) Gone
