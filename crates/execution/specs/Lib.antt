@@ -1,3 +1,4 @@
 pub mod Changes
 pub mod Stack
 pub mod Transfers
+pub mod Executes
