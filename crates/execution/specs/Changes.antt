@@ -46,29 +46,33 @@ outcome SignExtend d psw = extend-outcome (flags-of psw)
 
 -- The result is written.
 unfoldable pub writes : Size → Location → ℕ → Processor → Act (Ending × Processor)
-writes s at r p = bind (gives s at r p) (λ z. elim (z .0)
-  [ None ↦ done (TimedOut, z .1)
-  | Some u ↦ done (Completed, z .1) ])
+writes s at r p = bind (gives s at r p) (λ z. elim (z .0) [
+  | None ↦ done (TimedOut, z .1)
+  | Some u ↦ done (Completed, z .1)
+])
 
 -- The flags are set, before the result, where there is one, is written.
 abbrev pub flagged : Outcome → Processor → Processor
 flagged o p = with-psw p (with-flags (p .psw) (o .flags))
 
 unfoldable pub concludes : Size → Location → Outcome → Processor → Act (Ending × Processor)
-concludes s at o p = elim (o .value)
-  [ None ↦ done (Completed, flagged o p)
-  | Some r ↦ writes s at r (flagged o p) ]
+concludes s at o p = elim (o .value) [
+  | None ↦ done (Completed, flagged o p)
+  | Some r ↦ writes s at r (flagged o p)
+]
 
 -- A destination that is found is read, and then written where the operation has a result: CMP, BIT and TST have none.
 unfoldable pub alters : Change → Location → Processor → Act (Ending × Processor)
-alters c at p = bind (takes (size c) at p) (λ v. elim v
-  [ None ↦ done (TimedOut, p)
-  | Some d ↦ concludes (size c) at (outcome c d (p .psw)) p ])
+alters c at p = bind (takes (size c) at p) (λ v. elim v [
+  | None ↦ done (TimedOut, p)
+  | Some d ↦ concludes (size c) at (outcome c d (p .psw)) p
+])
 
 unfoldable pub changes : Change → Operand → Processor → Act (Ending × Processor)
-changes c d p = bind (locates (size c) d p) (λ z. elim (z .0)
-  [ None ↦ done (TimedOut, z .1)
-  | Some at ↦ alters c at (z .1) ])
+changes c d p = bind (locates (size c) d p) (λ z. elim (z .0) [
+  | None ↦ done (TimedOut, z .1)
+  | Some at ↦ alters c at (z .1)
+])
 
 -- MOV and MFPS only write; as bytes they spread the sign over a whole register.
 unfoldable pub fills : Size → Location → ℕ → Processor → Act (Ending × Processor)
@@ -77,20 +81,23 @@ fills Byte (InMemory at) v p = writes Byte (InMemory at) v p
 fills Word at v p = writes Word at v p
 
 unfoldable pub replaces : Size → Location → Outcome → Processor → Act (Ending × Processor)
-replaces s at o p = elim (o .value)
-  [ None ↦ done (Completed, flagged o p)
-  | Some r ↦ fills s at r (flagged o p) ]
+replaces s at o p = elim (o .value) [
+  | None ↦ done (Completed, flagged o p)
+  | Some r ↦ fills s at r (flagged o p)
+]
 
 unfoldable pub overwrites : Size → Outcome → Operand → Processor → Act (Ending × Processor)
-overwrites s o d p = bind (locates s d p) (λ z. elim (z .0)
-  [ None ↦ done (TimedOut, z .1)
-  | Some at ↦ replaces s at o (z .1) ])
+overwrites s o d p = bind (locates s d p) (λ z. elim (z .0) [
+  | None ↦ done (TimedOut, z .1)
+  | Some at ↦ replaces s at o (z .1)
+])
 
 -- A source is found and read.
 unfoldable pub reads : Size → Operand → Processor → Act (Option ℕ × Processor)
-reads s x p = bind (locates s x p) (λ z. elim (z .0)
-  [ None ↦ done (None, z .1)
-  | Some at ↦ leaving (z .1) (takes s at (z .1)) ])
+reads s x p = bind (locates s x p) (λ z. elim (z .0) [
+  | None ↦ done (None, z .1)
+  | Some at ↦ leaving (z .1) (takes s at (z .1))
+])
 
 -- The source, once read, and the destination.
 abbrev pub combines : DoubleOperation → Size → ℕ → Operand → Processor → Act (Ending × Processor)
@@ -102,22 +109,26 @@ combines Bis s x d p = changes (Double Bis s x) d p
 
 -- The source is read before the destination's address is formed.
 unfoldable pub doubles : DoubleOperation → Size → Operand → Operand → Processor → Act (Ending × Processor)
-doubles o s x d p = bind (reads s x p) (λ z. elim (z .0)
-  [ None ↦ done (TimedOut, z .1)
-  | Some v ↦ combines o s v d (z .1) ])
+doubles o s x d p = bind (reads s x p) (λ z. elim (z .0) [
+  | None ↦ done (TimedOut, z .1)
+  | Some v ↦ combines o s v d (z .1)
+])
 
 unfoldable pub adds : Operand → Operand → Processor → Act (Ending × Processor)
-adds x d p = bind (reads Word x p) (λ z. elim (z .0)
-  [ None ↦ done (TimedOut, z .1)
-  | Some v ↦ changes (Add v) d (z .1) ])
+adds x d p = bind (reads Word x p) (λ z. elim (z .0) [
+  | None ↦ done (TimedOut, z .1)
+  | Some v ↦ changes (Add v) d (z .1)
+])
 
 unfoldable pub subtracts : Operand → Operand → Processor → Act (Ending × Processor)
-subtracts x d p = bind (reads Word x p) (λ z. elim (z .0)
-  [ None ↦ done (TimedOut, z .1)
-  | Some v ↦ changes (Subtract v) d (z .1) ])
+subtracts x d p = bind (reads Word x p) (λ z. elim (z .0) [
+  | None ↦ done (TimedOut, z .1)
+  | Some v ↦ changes (Subtract v) d (z .1)
+])
 
 -- MTPS only reads: the byte replaces the status word's low byte.
 unfoldable pub loads-status : Operand → Processor → Act (Ending × Processor)
-loads-status x p = bind (reads Byte x p) (λ z. elim (z .0)
-  [ None ↦ done (TimedOut, z .1)
-  | Some v ↦ done (Completed, with-psw (z .1) (with-low-byte (z .1 .psw) v)) ])
+loads-status x p = bind (reads Byte x p) (λ z. elim (z .0) [
+  | None ↦ done (TimedOut, z .1)
+  | Some v ↦ done (Completed, with-psw (z .1) (with-low-byte (z .1 .psw) v))
+])

@@ -17,7 +17,7 @@ use Rattle.operands.specs.declared.state.Processor.{Processor}
 use Rattle.operands.specs.State.{register, with-psw, with-life, with-waiting, with-requests}
 use Rattle.execution.specs.declared.change.Change.the-variants.{Single, ExclusiveOr, SwapBytes, SignExtend}
 use Rattle.execution.specs.declared.ending.Ending.{Ending}
-use Rattle.execution.specs.declared.ending.Ending.the-variants.{Completed, ReturnedFromTrace, Trapped}
+use Rattle.execution.specs.declared.ending.Ending.the-variants.{Completed, ReturnedFromTrace, Halted as Halts, Trapped}
 use Rattle.execution.specs.declared.ending.Trap.the-variants as traps
 use Rattle.execution.specs.Changes.{changes, overwrites, doubles, adds, subtracts, loads-status}
 use Rattle.execution.specs.Transfers.{branched, looped, jumps, calls, leaves, marks, restores}
@@ -31,7 +31,7 @@ resets p = bind (asks Init) (λ a. done (Completed, dropped p))
 
 -- The words with no field.
 unfoldable pub controls : Control → Processor → Act (Ending × Processor)
-controls Halt p = done (Completed, with-life p Halted)
+controls Halt p = done (Halts, with-life p Halted)
 controls Wait p = done (Completed, with-waiting p true)
 controls Rti p = restores Completed p
 controls Bpt p = done (Trapped traps.Bpt, p)

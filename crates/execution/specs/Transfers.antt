@@ -44,30 +44,34 @@ jumped (InRegister r) p = (Trapped JumpToRegister, p)
 jumped (InMemory at) p = (Completed, with-register p Pc at)
 
 unfoldable pub jumps : Operand → Processor → Act (Ending × Processor)
-jumps d p = bind (locates Word d p) (λ z. elim (z .0)
-  [ None ↦ done (TimedOut, z .1)
-  | Some at ↦ done (jumped at (z .1)) ])
+jumps d p = bind (locates Word d p) (λ z. elim (z .0) [
+  | None ↦ done (TimedOut, z .1)
+  | Some at ↦ done (jumped at (z .1))
+])
 
 -- A call pushes the register, SP as already lowered, sets it to PC, and jumps.
 unfoldable pub links : Register → ℕ → Processor → Act (Ending × Processor)
-links r at p = bind (pushes (register (lowered p) r) p) (λ z. elim (z .0)
-  [ None ↦ done (TimedOut, z .1)
-  | Some u ↦ done (Completed, with-register (with-register (z .1) r (register (z .1) Pc)) Pc at) ])
+links r at p = bind (pushes (register (lowered p) r) p) (λ z. elim (z .0) [
+  | None ↦ done (TimedOut, z .1)
+  | Some u ↦ done (Completed, with-register (with-register (z .1) r (register (z .1) Pc)) Pc at)
+])
 
 unfoldable pub calls-at : Register → Location → Processor → Act (Ending × Processor)
 calls-at r (InRegister d) p = done (Trapped JumpToRegister, p)
 calls-at r (InMemory at) p = links r at p
 
 unfoldable pub calls : Register → Operand → Processor → Act (Ending × Processor)
-calls r d p = bind (locates Word d p) (λ z. elim (z .0)
-  [ None ↦ done (TimedOut, z .1)
-  | Some at ↦ calls-at r at (z .1) ])
+calls r d p = bind (locates Word d p) (λ z. elim (z .0) [
+  | None ↦ done (TimedOut, z .1)
+  | Some at ↦ calls-at r at (z .1)
+])
 
 -- A register is popped.
 unfoldable pub pops-into : Register → Processor → Act (Ending × Processor)
-pops-into r p = bind (pops p) (λ z. elim (z .0)
-  [ None ↦ done (TimedOut, z .1)
-  | Some w ↦ done (Completed, with-register (z .1) r w) ])
+pops-into r p = bind (pops p) (λ z. elim (z .0) [
+  | None ↦ done (TimedOut, z .1)
+  | Some w ↦ done (Completed, with-register (z .1) r w)
+])
 
 -- RTS: PC from the register, which is then popped.
 abbrev pub leaves : Register → Processor → Act (Ending × Processor)
@@ -82,11 +86,13 @@ marks n p = pops-into R5 (marked n p)
 
 -- RTI and RTT pop PC, and then the status word.
 unfoldable pub pops-status : Ending → Processor → Act (Ending × Processor)
-pops-status e p = bind (pops p) (λ z. elim (z .0)
-  [ None ↦ done (TimedOut, z .1)
-  | Some w ↦ done (e, with-psw (z .1) w) ])
+pops-status e p = bind (pops p) (λ z. elim (z .0) [
+  | None ↦ done (TimedOut, z .1)
+  | Some w ↦ done (e, with-psw (z .1) w)
+])
 
 unfoldable pub restores : Ending → Processor → Act (Ending × Processor)
-restores e p = bind (pops p) (λ z. elim (z .0)
-  [ None ↦ done (TimedOut, z .1)
-  | Some w ↦ pops-status e (with-register (z .1) Pc w) ])
+restores e p = bind (pops p) (λ z. elim (z .0) [
+  | None ↦ done (TimedOut, z .1)
+  | Some w ↦ pops-status e (with-register (z .1) Pc w)
+])

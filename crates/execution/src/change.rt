@@ -3,7 +3,6 @@ ghost use mathlib.Core.Path.{_≡_};
 ghost use Rattle.bus.specs.Courses.{Played};
 ghost use Rattle.operands.specs.State.{beside};
 ghost use Rattle.execution.specs.Changes.{size, outcome, writes, flagged, concludes, alters, changes, fills, replaces, overwrites, reads, combines, doubles, adds, subtracts, loads-status};
-
 use crate::ending::Ending;
 use arithmetic::Flags;
 use arithmetic::Outcome;
@@ -53,7 +52,13 @@ impl Change {
         let flags = Flags::of_status(psw);
         match self {
             Change::Single(operation, size) => arithmetic::single(operation, size, old, flags),
-            Change::Double(operation, size, source) => arithmetic::double(operation, size, source, old, flags),
+            Change::Double(operation, size, source) => arithmetic::double(
+                operation,
+                size,
+                source,
+                old,
+                flags,
+            ),
             Change::Add(source) => arithmetic::add(source, old),
             Change::Subtract(source) => arithmetic::subtract(source, old),
             Change::ExclusiveOr(source) => arithmetic::exclusive_or(source, old, flags),
@@ -69,7 +74,14 @@ fn set_flags(p: &mut Processor, outcome: Outcome)
     p.psw = outcome.flags.put_into(p.psw);
 }
 
-fn write<B: Board, C: Cabinet>(p: &mut Processor, board: &mut B, side: &mut C, size: Size, at: Location, result: u16) -> Result<Ending, Gone>
+fn write<B: Board, C: Cabinet>(
+    p: &mut Processor,
+    board: &mut B,
+    side: &mut C,
+    size: Size,
+    at: Location,
+    result: u16,
+) -> Result<Ending, Gone>
     ensures { λ r. ⌜ Played (C·Cabinet .meaning) (C·Cabinet .becomes) (writes size at result (now (p .entry))) (B·Board .meaning (now (board .entry))) (now (side .entry)) (beside r (now (p .exit))) (B·Board .meaning (now (board .exit))) (now (side .exit)) ⌝ }
 {
     let Some(()) = give(p, board, side, size, at, result)? else {
@@ -78,7 +90,14 @@ fn write<B: Board, C: Cabinet>(p: &mut Processor, board: &mut B, side: &mut C, s
     Ok(Ending::Completed)
 }
 
-fn conclude<B: Board, C: Cabinet>(p: &mut Processor, board: &mut B, side: &mut C, size: Size, at: Location, outcome: Outcome) -> Result<Ending, Gone>
+fn conclude<B: Board, C: Cabinet>(
+    p: &mut Processor,
+    board: &mut B,
+    side: &mut C,
+    size: Size,
+    at: Location,
+    outcome: Outcome,
+) -> Result<Ending, Gone>
     ensures { λ r. ⌜ Played (C·Cabinet .meaning) (C·Cabinet .becomes) (concludes size at outcome (now (p .entry))) (B·Board .meaning (now (board .entry))) (now (side .entry)) (beside r (now (p .exit))) (B·Board .meaning (now (board .exit))) (now (side .exit)) ⌝ }
 {
     set_flags(p, outcome);
@@ -88,17 +107,36 @@ fn conclude<B: Board, C: Cabinet>(p: &mut Processor, board: &mut B, side: &mut C
     }
 }
 
-fn alter<B: Board, C: Cabinet>(p: &mut Processor, board: &mut B, side: &mut C, change: Change, at: Location) -> Result<Ending, Gone>
+fn alter<B: Board, C: Cabinet>(
+    p: &mut Processor,
+    board: &mut B,
+    side: &mut C,
+    change: Change,
+    at: Location,
+) -> Result<Ending, Gone>
     ensures { λ r. ⌜ Played (C·Cabinet .meaning) (C·Cabinet .becomes) (alters change at (now (p .entry))) (B·Board .meaning (now (board .entry))) (now (side .entry)) (beside r (now (p .exit))) (B·Board .meaning (now (board .exit))) (now (side .exit)) ⌝ }
 {
     let Some(old) = take(p, board, side, change.size(), at)? else {
         return Ok(Ending::TimedOut);
     };
-    conclude(p, board, side, change.size(), at, change.outcome(old, p.psw))
+    conclude(
+        p,
+        board,
+        side,
+        change.size(),
+        at,
+        change.outcome(old, p.psw),
+    )
 }
 
 // Reads the destination, sets the flags, and writes the result where there is one.
-pub fn apply<B: Board, C: Cabinet>(p: &mut Processor, board: &mut B, side: &mut C, change: Change, destination: Operand) -> Result<Ending, Gone>
+pub fn apply<B: Board, C: Cabinet>(
+    p: &mut Processor,
+    board: &mut B,
+    side: &mut C,
+    change: Change,
+    destination: Operand,
+) -> Result<Ending, Gone>
     ensures { λ r. ⌜ Played (C·Cabinet .meaning) (C·Cabinet .becomes) (changes change destination (now (p .entry))) (B·Board .meaning (now (board .entry))) (now (side .entry)) (beside r (now (p .exit))) (B·Board .meaning (now (board .exit))) (now (side .exit)) ⌝ }
 {
     let Some(at) = locate(p, board, side, change.size(), destination)? else {
@@ -107,7 +145,14 @@ pub fn apply<B: Board, C: Cabinet>(p: &mut Processor, board: &mut B, side: &mut 
     alter(p, board, side, change, at)
 }
 
-fn fill<B: Board, C: Cabinet>(p: &mut Processor, board: &mut B, side: &mut C, size: Size, at: Location, value: u16) -> Result<Ending, Gone>
+fn fill<B: Board, C: Cabinet>(
+    p: &mut Processor,
+    board: &mut B,
+    side: &mut C,
+    size: Size,
+    at: Location,
+    value: u16,
+) -> Result<Ending, Gone>
     ensures { λ r. ⌜ Played (C·Cabinet .meaning) (C·Cabinet .becomes) (fills size at value (now (p .entry))) (B·Board .meaning (now (board .entry))) (now (side .entry)) (beside r (now (p .exit))) (B·Board .meaning (now (board .exit))) (now (side .exit)) ⌝ }
 {
     match (size, at) {
@@ -119,7 +164,14 @@ fn fill<B: Board, C: Cabinet>(p: &mut Processor, board: &mut B, side: &mut C, si
     }
 }
 
-fn replace<B: Board, C: Cabinet>(p: &mut Processor, board: &mut B, side: &mut C, size: Size, at: Location, outcome: Outcome) -> Result<Ending, Gone>
+fn replace<B: Board, C: Cabinet>(
+    p: &mut Processor,
+    board: &mut B,
+    side: &mut C,
+    size: Size,
+    at: Location,
+    outcome: Outcome,
+) -> Result<Ending, Gone>
     ensures { λ r. ⌜ Played (C·Cabinet .meaning) (C·Cabinet .becomes) (replaces size at outcome (now (p .entry))) (B·Board .meaning (now (board .entry))) (now (side .entry)) (beside r (now (p .exit))) (B·Board .meaning (now (board .exit))) (now (side .exit)) ⌝ }
 {
     set_flags(p, outcome);
@@ -130,7 +182,14 @@ fn replace<B: Board, C: Cabinet>(p: &mut Processor, board: &mut B, side: &mut C,
 }
 
 // Sets the flags and writes the result, with no look at what the destination held.
-pub fn overwrite<B: Board, C: Cabinet>(p: &mut Processor, board: &mut B, side: &mut C, size: Size, outcome: Outcome, destination: Operand) -> Result<Ending, Gone>
+pub fn overwrite<B: Board, C: Cabinet>(
+    p: &mut Processor,
+    board: &mut B,
+    side: &mut C,
+    size: Size,
+    outcome: Outcome,
+    destination: Operand,
+) -> Result<Ending, Gone>
     ensures { λ r. ⌜ Played (C·Cabinet .meaning) (C·Cabinet .becomes) (overwrites size outcome destination (now (p .entry))) (B·Board .meaning (now (board .entry))) (now (side .entry)) (beside r (now (p .exit))) (B·Board .meaning (now (board .exit))) (now (side .exit)) ⌝ }
 {
     let Some(at) = locate(p, board, side, size, destination)? else {
@@ -139,7 +198,13 @@ pub fn overwrite<B: Board, C: Cabinet>(p: &mut Processor, board: &mut B, side: &
     replace(p, board, side, size, at, outcome)
 }
 
-fn read<B: Board, C: Cabinet>(p: &mut Processor, board: &mut B, side: &mut C, size: Size, source: Operand) -> Result<Option<u16>, Gone>
+fn read<B: Board, C: Cabinet>(
+    p: &mut Processor,
+    board: &mut B,
+    side: &mut C,
+    size: Size,
+    source: Operand,
+) -> Result<Option<u16>, Gone>
     ensures { λ r. ⌜ Played (C·Cabinet .meaning) (C·Cabinet .becomes) (reads size source (now (p .entry))) (B·Board .meaning (now (board .entry))) (now (side .entry)) (beside r (now (p .exit))) (B·Board .meaning (now (board .exit))) (now (side .exit)) ⌝ }
 {
     let Some(at) = locate(p, board, side, size, source)? else {
@@ -148,20 +213,48 @@ fn read<B: Board, C: Cabinet>(p: &mut Processor, board: &mut B, side: &mut C, si
     take(p, board, side, size, at)
 }
 
-fn combine<B: Board, C: Cabinet>(p: &mut Processor, board: &mut B, side: &mut C, operation: DoubleOperation, size: Size, source: u16, destination: Operand) -> Result<Ending, Gone>
+fn combine<B: Board, C: Cabinet>(
+    p: &mut Processor,
+    board: &mut B,
+    side: &mut C,
+    operation: DoubleOperation,
+    size: Size,
+    source: u16,
+    destination: Operand,
+) -> Result<Ending, Gone>
     ensures { λ r. ⌜ Played (C·Cabinet .meaning) (C·Cabinet .becomes) (combines operation size source destination (now (p .entry))) (B·Board .meaning (now (board .entry))) (now (side .entry)) (beside r (now (p .exit))) (B·Board .meaning (now (board .exit))) (now (side .exit)) ⌝ }
 {
     match operation {
         DoubleOperation::Mov => {
-            let outcome = arithmetic::double(DoubleOperation::Mov, size, source, 0, Flags::of_status(p.psw));
+            let outcome = arithmetic::double(
+                DoubleOperation::Mov,
+                size,
+                source,
+                0,
+                Flags::of_status(p.psw),
+            );
             overwrite(p, board, side, size, outcome, destination)
         }
-        _ => apply(p, board, side, Change::Double(operation, size, source), destination),
+        _ => apply(
+            p,
+            board,
+            side,
+            Change::Double(operation, size, source),
+            destination,
+        ),
     }
 }
 
 // MOV, CMP, BIT, BIC and BIS.
-pub fn double<B: Board, C: Cabinet>(p: &mut Processor, board: &mut B, side: &mut C, operation: DoubleOperation, size: Size, source: Operand, destination: Operand) -> Result<Ending, Gone>
+pub fn double<B: Board, C: Cabinet>(
+    p: &mut Processor,
+    board: &mut B,
+    side: &mut C,
+    operation: DoubleOperation,
+    size: Size,
+    source: Operand,
+    destination: Operand,
+) -> Result<Ending, Gone>
     ensures { λ r. ⌜ Played (C·Cabinet .meaning) (C·Cabinet .becomes) (doubles operation size source destination (now (p .entry))) (B·Board .meaning (now (board .entry))) (now (side .entry)) (beside r (now (p .exit))) (B·Board .meaning (now (board .exit))) (now (side .exit)) ⌝ }
 {
     let Some(value) = read(p, board, side, size, source)? else {
@@ -170,7 +263,13 @@ pub fn double<B: Board, C: Cabinet>(p: &mut Processor, board: &mut B, side: &mut
     combine(p, board, side, operation, size, value, destination)
 }
 
-pub fn add<B: Board, C: Cabinet>(p: &mut Processor, board: &mut B, side: &mut C, source: Operand, destination: Operand) -> Result<Ending, Gone>
+pub fn add<B: Board, C: Cabinet>(
+    p: &mut Processor,
+    board: &mut B,
+    side: &mut C,
+    source: Operand,
+    destination: Operand,
+) -> Result<Ending, Gone>
     ensures { λ r. ⌜ Played (C·Cabinet .meaning) (C·Cabinet .becomes) (adds source destination (now (p .entry))) (B·Board .meaning (now (board .entry))) (now (side .entry)) (beside r (now (p .exit))) (B·Board .meaning (now (board .exit))) (now (side .exit)) ⌝ }
 {
     let Some(value) = read(p, board, side, Size::Word, source)? else {
@@ -179,7 +278,13 @@ pub fn add<B: Board, C: Cabinet>(p: &mut Processor, board: &mut B, side: &mut C,
     apply(p, board, side, Change::Add(value), destination)
 }
 
-pub fn subtract<B: Board, C: Cabinet>(p: &mut Processor, board: &mut B, side: &mut C, source: Operand, destination: Operand) -> Result<Ending, Gone>
+pub fn subtract<B: Board, C: Cabinet>(
+    p: &mut Processor,
+    board: &mut B,
+    side: &mut C,
+    source: Operand,
+    destination: Operand,
+) -> Result<Ending, Gone>
     ensures { λ r. ⌜ Played (C·Cabinet .meaning) (C·Cabinet .becomes) (subtracts source destination (now (p .entry))) (B·Board .meaning (now (board .entry))) (now (side .entry)) (beside r (now (p .exit))) (B·Board .meaning (now (board .exit))) (now (side .exit)) ⌝ }
 {
     let Some(value) = read(p, board, side, Size::Word, source)? else {
@@ -189,7 +294,12 @@ pub fn subtract<B: Board, C: Cabinet>(p: &mut Processor, board: &mut B, side: &m
 }
 
 // MTPS.
-pub fn to_status<B: Board, C: Cabinet>(p: &mut Processor, board: &mut B, side: &mut C, source: Operand) -> Result<Ending, Gone>
+pub fn to_status<B: Board, C: Cabinet>(
+    p: &mut Processor,
+    board: &mut B,
+    side: &mut C,
+    source: Operand,
+) -> Result<Ending, Gone>
     ensures { λ r. ⌜ Played (C·Cabinet .meaning) (C·Cabinet .becomes) (loads-status source (now (p .entry))) (B·Board .meaning (now (board .entry))) (now (side .entry)) (beside r (now (p .exit))) (B·Board .meaning (now (board .exit))) (now (side .exit)) ⌝ }
 {
     let Some(byte) = read(p, board, side, Size::Byte, source)? else {

@@ -4,7 +4,6 @@ ghost use Rattle.bus.specs.Courses.{Played};
 ghost use Rattle.bus.specs.Memory.{Memory};
 ghost use Rattle.operands.specs.State.{beside};
 ghost use Rattle.execution.specs.Executes.{resets, controls, reflagged};
-
 use crate::ending::Ending;
 use crate::ending::Trap;
 use crate::transfer::restore;
@@ -30,13 +29,18 @@ fn reset<C: Cabinet>(p: &mut Processor, side: &mut C) -> Result<Ending, Gone>
     Ok(Ending::Completed)
 }
 
-pub fn control<B: Board, C: Cabinet>(p: &mut Processor, board: &mut B, side: &mut C, word: Control) -> Result<Ending, Gone>
+pub fn control<B: Board, C: Cabinet>(
+    p: &mut Processor,
+    board: &mut B,
+    side: &mut C,
+    word: Control,
+) -> Result<Ending, Gone>
     ensures { λ r. ⌜ Played (C·Cabinet .meaning) (C·Cabinet .becomes) (controls word (now (p .entry))) (B·Board .meaning (now (board .entry))) (now (side .entry)) (beside r (now (p .exit))) (B·Board .meaning (now (board .exit))) (now (side .exit)) ⌝ }
 {
     match word {
         Control::Halt => {
             p.life = Life::Halted;
-            Ok(Ending::Completed)
+            Ok(Ending::Halted)
         }
         Control::Wait => {
             p.waiting = true;

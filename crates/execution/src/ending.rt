@@ -19,6 +19,8 @@ pub enum Ending {
     Completed,
     // Completed by RTT, which leaves the trace mark alone.
     ReturnedFromTrace,
+    // HALT, which has stopped the processor.
+    Halted,
     // An access timed out, and the instruction ended there.
     TimedOut,
     Trapped(Trap),

@@ -2,7 +2,6 @@
 ghost use Rattle.bus.specs.Courses.{Played};
 ghost use Rattle.operands.specs.State.{beside};
 ghost use Rattle.execution.specs.Executes.{executes};
-
 use crate::change::Change;
 use crate::change::add;
 use crate::change::apply;
@@ -29,7 +28,12 @@ use isa::Size;
 use operands::Processor;
 
 // Executes an instruction whose word was fetched; PC is past it already.
-pub fn execute<B: Board, C: Cabinet>(p: &mut Processor, board: &mut B, side: &mut C, instruction: Instruction) -> Result<Ending, Gone>
+pub fn execute<B: Board, C: Cabinet>(
+    p: &mut Processor,
+    board: &mut B,
+    side: &mut C,
+    instruction: Instruction,
+) -> Result<Ending, Gone>
     ensures { λ r. ⌜ Played (C·Cabinet .meaning) (C·Cabinet .becomes) (executes instruction (now (p .entry))) (B·Board .meaning (now (board .entry))) (now (side .entry)) (beside r (now (p .exit))) (B·Board .meaning (now (board .exit))) (now (side .exit)) ⌝ }
 {
     match instruction {
@@ -46,7 +50,13 @@ pub fn execute<B: Board, C: Cabinet>(p: &mut Processor, board: &mut B, side: &mu
             Ok(Ending::Completed)
         }
         Instruction::Call(r, d) => call(p, board, side, r, d),
-        Instruction::Single(size, operation, d) => apply(p, board, side, Change::Single(operation, size), d),
+        Instruction::Single(size, operation, d) => apply(
+            p,
+            board,
+            side,
+            Change::Single(operation, size),
+            d,
+        ),
         Instruction::Mark(words) => mark(p, board, side, words),
         Instruction::SignExtend(d) => apply(p, board, side, Change::SignExtend, d),
         Instruction::ToStatus(s) => to_status(p, board, side, s),
@@ -54,7 +64,13 @@ pub fn execute<B: Board, C: Cabinet>(p: &mut Processor, board: &mut B, side: &mu
         Instruction::Double(size, operation, s, d) => double(p, board, side, operation, size, s, d),
         Instruction::Add(s, d) => add(p, board, side, s, d),
         Instruction::Subtract(s, d) => subtract(p, board, side, s, d),
-        Instruction::ExclusiveOr(r, d) => apply(p, board, side, Change::ExclusiveOr(p.register(r)), d),
+        Instruction::ExclusiveOr(r, d) => apply(
+            p,
+            board,
+            side,
+            Change::ExclusiveOr(p.register(r)),
+            d,
+        ),
         Instruction::Loop(r, back) => {
             count_down(p, r, back);
             Ok(Ending::Completed)

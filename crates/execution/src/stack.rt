@@ -3,7 +3,6 @@ ghost use mathlib.Core.Path.{_≡_};
 ghost use Rattle.bus.specs.Courses.{Played};
 ghost use Rattle.operands.specs.State.{beside};
 ghost use Rattle.execution.specs.Stack.{lowered, pushes, pops};
-
 use bus::Board;
 use bus::Cabinet;
 use bus::Gone;
@@ -22,7 +21,12 @@ pub fn with_lowered_stack(p: Processor) -> Processor
 }
 
 // Lowers SP and writes a word there.
-pub fn push<B: Board, C: Cabinet>(p: &mut Processor, board: &mut B, side: &mut C, word: u16) -> Result<Option<()>, Gone>
+pub fn push<B: Board, C: Cabinet>(
+    p: &mut Processor,
+    board: &mut B,
+    side: &mut C,
+    word: u16,
+) -> Result<Option<()>, Gone>
     ensures { λ r. ⌜ Played (C·Cabinet .meaning) (C·Cabinet .becomes) (pushes word (now (p .entry))) (B·Board .meaning (now (board .entry))) (now (side .entry)) (beside r (now (p .exit))) (B·Board .meaning (now (board .exit))) (now (side .exit)) ⌝ }
 {
     *p = with_lowered_stack(*p);
@@ -30,7 +34,11 @@ pub fn push<B: Board, C: Cabinet>(p: &mut Processor, board: &mut B, side: &mut C
 }
 
 // The word at SP, which rises past it.
-pub fn pop<B: Board, C: Cabinet>(p: &mut Processor, board: &mut B, side: &mut C) -> Result<Option<u16>, Gone>
+pub fn pop<B: Board, C: Cabinet>(
+    p: &mut Processor,
+    board: &mut B,
+    side: &mut C,
+) -> Result<Option<u16>, Gone>
     ensures { λ r. ⌜ Played (C·Cabinet .meaning) (C·Cabinet .becomes) (pops (now (p .entry))) (B·Board .meaning (now (board .entry))) (now (side .entry)) (beside r (now (p .exit))) (B·Board .meaning (now (board .exit))) (now (side .exit)) ⌝ }
 {
     let at = p.register(Register::Sp);

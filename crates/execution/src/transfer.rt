@@ -3,7 +3,6 @@ ghost use mathlib.Core.Path.{_≡_};
 ghost use Rattle.bus.specs.Courses.{Played};
 ghost use Rattle.operands.specs.State.{beside};
 ghost use Rattle.execution.specs.Transfers.{branched, looped, jumps, links, calls-at, calls, pops-into, leaves, marks, pops-status, restores};
-
 use crate::ending::Ending;
 use crate::ending::Trap;
 use crate::stack::pop;
@@ -27,7 +26,11 @@ pub fn branch(p: &mut Processor, condition: Condition, offset: i8)
     ensures { λ _. ⌜ now (p .exit) ≡ branched condition offset (now (p .entry)) ⌝ }
 {
     if taken(condition, Flags::of_status(p.psw)) {
-        p.set_register(Register::Pc, p.register(Register::Pc).wrapping_add(branch_distance(offset)));
+        p.set_register(
+            Register::Pc,
+            p.register(Register::Pc)
+                .wrapping_add(branch_distance(offset)),
+        );
     }
 }
 
@@ -37,12 +40,20 @@ pub fn count_down(p: &mut Processor, r: Register, back: u8)
 {
     p.set_register(r, p.register(r).wrapping_sub(1));
     if p.register(r) != 0 {
-        p.set_register(Register::Pc, p.register(Register::Pc).wrapping_sub(2 * u16::from(back)));
+        p.set_register(
+            Register::Pc,
+            p.register(Register::Pc).wrapping_sub(2 * u16::from(back)),
+        );
     }
 }
 
 // JMP.
-pub fn jump<B: Board, C: Cabinet>(p: &mut Processor, board: &mut B, side: &mut C, destination: Operand) -> Result<Ending, Gone>
+pub fn jump<B: Board, C: Cabinet>(
+    p: &mut Processor,
+    board: &mut B,
+    side: &mut C,
+    destination: Operand,
+) -> Result<Ending, Gone>
     ensures { λ r. ⌜ Played (C·Cabinet .meaning) (C·Cabinet .becomes) (jumps destination (now (p .entry))) (B·Board .meaning (now (board .entry))) (now (side .entry)) (beside r (now (p .exit))) (B·Board .meaning (now (board .exit))) (now (side .exit)) ⌝ }
 {
     let Some(at) = locate(p, board, side, Size::Word, destination)? else {
@@ -57,7 +68,13 @@ pub fn jump<B: Board, C: Cabinet>(p: &mut Processor, board: &mut B, side: &mut C
     }
 }
 
-fn link<B: Board, C: Cabinet>(p: &mut Processor, board: &mut B, side: &mut C, r: Register, at: u16) -> Result<Ending, Gone>
+fn link<B: Board, C: Cabinet>(
+    p: &mut Processor,
+    board: &mut B,
+    side: &mut C,
+    r: Register,
+    at: u16,
+) -> Result<Ending, Gone>
     ensures { λ e. ⌜ Played (C·Cabinet .meaning) (C·Cabinet .becomes) (links r at (now (p .entry))) (B·Board .meaning (now (board .entry))) (now (side .entry)) (beside e (now (p .exit))) (B·Board .meaning (now (board .exit))) (now (side .exit)) ⌝ }
 {
     let word = with_lowered_stack(*p).register(r);
@@ -69,7 +86,13 @@ fn link<B: Board, C: Cabinet>(p: &mut Processor, board: &mut B, side: &mut C, r:
     Ok(Ending::Completed)
 }
 
-fn call_at<B: Board, C: Cabinet>(p: &mut Processor, board: &mut B, side: &mut C, r: Register, at: Location) -> Result<Ending, Gone>
+fn call_at<B: Board, C: Cabinet>(
+    p: &mut Processor,
+    board: &mut B,
+    side: &mut C,
+    r: Register,
+    at: Location,
+) -> Result<Ending, Gone>
     ensures { λ e. ⌜ Played (C·Cabinet .meaning) (C·Cabinet .becomes) (calls-at r at (now (p .entry))) (B·Board .meaning (now (board .entry))) (now (side .entry)) (beside e (now (p .exit))) (B·Board .meaning (now (board .exit))) (now (side .exit)) ⌝ }
 {
     match at {
@@ -79,7 +102,13 @@ fn call_at<B: Board, C: Cabinet>(p: &mut Processor, board: &mut B, side: &mut C,
 }
 
 // JSR.
-pub fn call<B: Board, C: Cabinet>(p: &mut Processor, board: &mut B, side: &mut C, r: Register, destination: Operand) -> Result<Ending, Gone>
+pub fn call<B: Board, C: Cabinet>(
+    p: &mut Processor,
+    board: &mut B,
+    side: &mut C,
+    r: Register,
+    destination: Operand,
+) -> Result<Ending, Gone>
     ensures { λ e. ⌜ Played (C·Cabinet .meaning) (C·Cabinet .becomes) (calls r destination (now (p .entry))) (B·Board .meaning (now (board .entry))) (now (side .entry)) (beside e (now (p .exit))) (B·Board .meaning (now (board .exit))) (now (side .exit)) ⌝ }
 {
     let Some(at) = locate(p, board, side, Size::Word, destination)? else {
@@ -88,7 +117,12 @@ pub fn call<B: Board, C: Cabinet>(p: &mut Processor, board: &mut B, side: &mut C
     call_at(p, board, side, r, at)
 }
 
-fn pop_into<B: Board, C: Cabinet>(p: &mut Processor, board: &mut B, side: &mut C, r: Register) -> Result<Ending, Gone>
+fn pop_into<B: Board, C: Cabinet>(
+    p: &mut Processor,
+    board: &mut B,
+    side: &mut C,
+    r: Register,
+) -> Result<Ending, Gone>
     ensures { λ e. ⌜ Played (C·Cabinet .meaning) (C·Cabinet .becomes) (pops-into r (now (p .entry))) (B·Board .meaning (now (board .entry))) (now (side .entry)) (beside e (now (p .exit))) (B·Board .meaning (now (board .exit))) (now (side .exit)) ⌝ }
 {
     let Some(word) = pop(p, board, side)? else {
@@ -99,7 +133,12 @@ fn pop_into<B: Board, C: Cabinet>(p: &mut Processor, board: &mut B, side: &mut C
 }
 
 // RTS.
-pub fn leave<B: Board, C: Cabinet>(p: &mut Processor, board: &mut B, side: &mut C, r: Register) -> Result<Ending, Gone>
+pub fn leave<B: Board, C: Cabinet>(
+    p: &mut Processor,
+    board: &mut B,
+    side: &mut C,
+    r: Register,
+) -> Result<Ending, Gone>
     ensures { λ e. ⌜ Played (C·Cabinet .meaning) (C·Cabinet .becomes) (leaves r (now (p .entry))) (B·Board .meaning (now (board .entry))) (now (side .entry)) (beside e (now (p .exit))) (B·Board .meaning (now (board .exit))) (now (side .exit)) ⌝ }
 {
     p.set_register(Register::Pc, p.register(r));
@@ -107,15 +146,28 @@ pub fn leave<B: Board, C: Cabinet>(p: &mut Processor, board: &mut B, side: &mut 
 }
 
 // MARK.
-pub fn mark<B: Board, C: Cabinet>(p: &mut Processor, board: &mut B, side: &mut C, words: u8) -> Result<Ending, Gone>
+pub fn mark<B: Board, C: Cabinet>(
+    p: &mut Processor,
+    board: &mut B,
+    side: &mut C,
+    words: u8,
+) -> Result<Ending, Gone>
     ensures { λ e. ⌜ Played (C·Cabinet .meaning) (C·Cabinet .becomes) (marks words (now (p .entry))) (B·Board .meaning (now (board .entry))) (now (side .entry)) (beside e (now (p .exit))) (B·Board .meaning (now (board .exit))) (now (side .exit)) ⌝ }
 {
-    p.set_register(Register::Sp, p.register(Register::Pc).wrapping_add(2 * u16::from(words)));
+    p.set_register(
+        Register::Sp,
+        p.register(Register::Pc).wrapping_add(2 * u16::from(words)),
+    );
     p.set_register(Register::Pc, p.register(Register::R5));
     pop_into(p, board, side, Register::R5)
 }
 
-fn pop_status<B: Board, C: Cabinet>(p: &mut Processor, board: &mut B, side: &mut C, ending: Ending) -> Result<Ending, Gone>
+fn pop_status<B: Board, C: Cabinet>(
+    p: &mut Processor,
+    board: &mut B,
+    side: &mut C,
+    ending: Ending,
+) -> Result<Ending, Gone>
     ensures { λ e. ⌜ Played (C·Cabinet .meaning) (C·Cabinet .becomes) (pops-status ending (now (p .entry))) (B·Board .meaning (now (board .entry))) (now (side .entry)) (beside e (now (p .exit))) (B·Board .meaning (now (board .exit))) (now (side .exit)) ⌝ }
 {
     let Some(word) = pop(p, board, side)? else {
@@ -126,7 +178,12 @@ fn pop_status<B: Board, C: Cabinet>(p: &mut Processor, board: &mut B, side: &mut
 }
 
 // RTI and RTT, which differ only in how they end.
-pub fn restore<B: Board, C: Cabinet>(p: &mut Processor, board: &mut B, side: &mut C, ending: Ending) -> Result<Ending, Gone>
+pub fn restore<B: Board, C: Cabinet>(
+    p: &mut Processor,
+    board: &mut B,
+    side: &mut C,
+    ending: Ending,
+) -> Result<Ending, Gone>
     ensures { λ e. ⌜ Played (C·Cabinet .meaning) (C·Cabinet .becomes) (restores ending (now (p .entry))) (B·Board .meaning (now (board .entry))) (now (side .entry)) (beside e (now (p .exit))) (B·Board .meaning (now (board .exit))) (now (side .exit)) ⌝ }
 {
     let Some(word) = pop(p, board, side)? else {

@@ -59,19 +59,37 @@ with-psw p w = record {
 
 -- The state with another life, with the waiting mark set or cleared, and with other requests.
 abbrev pub with-life : Processor → Life → Processor
-with-life p l = record
-  { registers = p .registers; psw = p .psw; lines = p .lines; requests = p .requests
-  ; trace = p .trace; waiting = p .waiting; life = l }
+with-life p l = record {
+  registers = p .registers;
+  psw = p .psw;
+  lines = p .lines;
+  requests = p .requests;
+  trace = p .trace;
+  waiting = p .waiting;
+  life = l;
+}
 
 abbrev pub with-waiting : Processor → Bool → Processor
-with-waiting p b = record
-  { registers = p .registers; psw = p .psw; lines = p .lines; requests = p .requests
-  ; trace = p .trace; waiting = b; life = p .life }
+with-waiting p b = record {
+  registers = p .registers;
+  psw = p .psw;
+  lines = p .lines;
+  requests = p .requests;
+  trace = p .trace;
+  waiting = b;
+  life = p .life;
+}
 
 abbrev pub with-requests : Processor → Requests → Processor
-with-requests p q = record
-  { registers = p .registers; psw = p .psw; lines = p .lines; requests = q
-  ; trace = p .trace; waiting = p .waiting; life = p .life }
+with-requests p q = record {
+  registers = p .registers;
+  psw = p .psw;
+  lines = p .lines;
+  requests = q;
+  trace = p .trace;
+  waiting = p .waiting;
+  life = p .life;
+}
 
 -- A course's end beside the processor's state that it leaves.
 abbrev pub beside : {X : Type 0} → Result X Gone → Processor → Result (X × Processor) Gone

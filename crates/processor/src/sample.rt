@@ -1,0 +1,87 @@
+// The request lines, and the request that is accepted.
+ghost use mathlib.Core.Path.{_≡_};
+ghost use Rattle.arithmetic.specs.Status.{odd};
+ghost use Rattle.processor.specs.Sampling.{lines-of, sampled, traces, masks, accepted};
+use bus::Reply;
+use operands::Lines;
+use operands::Processor;
+use operands::Requests;
+
+// A request that interrupts the processor.
+#[derive(Clone, Copy)]
+pub enum Accepted {
+    Aclo,
+    Irq2,
+    Irq3,
+    Virq,
+}
+
+fn is_odd(n: u16) -> bool
+    ensures { λ r. ⌜ r ≡ odd n ⌝ }
+{
+    n % 2 == 1
+}
+
+pub fn lines_in(reply: Reply) -> Lines
+    ensures { λ r. ⌜ r ≡ lines-of reply ⌝ }
+{
+    match reply {
+        Reply::Answered(word) => Lines {
+            aclo: is_odd(word),
+            irq2: is_odd(word / 2),
+            irq3: is_odd(word / 4),
+            virq: is_odd(word / 8),
+        },
+        Reply::TimedOut => Lines {
+            aclo: false,
+            irq2: false,
+            irq3: false,
+            virq: false,
+        },
+    }
+}
+
+// Takes note of the lines, and of those that have become active.
+pub fn sample(p: &mut Processor, lines: Lines)
+    ensures { λ _. ⌜ now (p .exit) ≡ sampled lines (now (p .entry)) ⌝ }
+{
+    p.requests = Requests {
+        aclo: p.requests.aclo || (lines.aclo && !p.lines.aclo),
+        irq2: p.requests.irq2 || (lines.irq2 && !p.lines.irq2),
+        irq3: p.requests.irq3 || (lines.irq3 && !p.lines.irq3),
+    };
+    p.lines = lines;
+}
+
+// Whether T is set.
+pub fn is_tracing(psw: u16) -> bool
+    ensures { λ r. ⌜ r ≡ traces psw ⌝ }
+{
+    is_odd(psw / 16)
+}
+
+// Whether P is set, which keeps out all requests but ACLO.
+fn is_masking(psw: u16) -> bool
+    ensures { λ r. ⌜ r ≡ masks psw ⌝ }
+{
+    is_odd(psw / 128)
+}
+
+// The first request that applies.
+pub fn accept_first(p: &Processor) -> Option<Accepted>
+    ensures { λ r. ⌜ r ≡ accepted (now (p .entry)) ⌝ }
+{
+    if p.requests.aclo {
+        Some(Accepted::Aclo)
+    } else if is_masking(p.psw) {
+        None
+    } else if p.requests.irq2 {
+        Some(Accepted::Irq2)
+    } else if p.requests.irq3 {
+        Some(Accepted::Irq3)
+    } else if p.lines.virq {
+        Some(Accepted::Virq)
+    } else {
+        None
+    }
+}
