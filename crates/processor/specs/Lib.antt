@@ -1,3 +1,4 @@
 pub mod Entering
 pub mod Sampling
 pub mod Stepping
+pub mod Jobs
