@@ -23,7 +23,7 @@ use operands::take;
 
 // What an instruction makes of its destination, with the source where it has one.
 #[derive(Clone, Copy)]
-pub enum Change {
+pub(crate) enum Change {
     Single(SingleOperation, Size),
     Double(DoubleOperation, Size, u16),
     Add(u16),
@@ -130,7 +130,7 @@ fn alter<B: Board, C: Cabinet>(
 }
 
 // Reads the destination, sets the flags, and writes the result where there is one.
-pub fn apply<B: Board, C: Cabinet>(
+pub(crate) fn apply<B: Board, C: Cabinet>(
     p: &mut Processor,
     board: &mut B,
     side: &mut C,
@@ -182,7 +182,7 @@ fn replace<B: Board, C: Cabinet>(
 }
 
 // Sets the flags and writes the result, with no look at what the destination held.
-pub fn overwrite<B: Board, C: Cabinet>(
+pub(crate) fn overwrite<B: Board, C: Cabinet>(
     p: &mut Processor,
     board: &mut B,
     side: &mut C,
@@ -246,7 +246,7 @@ fn combine<B: Board, C: Cabinet>(
 }
 
 // MOV, CMP, BIT, BIC and BIS.
-pub fn double<B: Board, C: Cabinet>(
+pub(crate) fn double<B: Board, C: Cabinet>(
     p: &mut Processor,
     board: &mut B,
     side: &mut C,
@@ -263,7 +263,7 @@ pub fn double<B: Board, C: Cabinet>(
     combine(p, board, side, operation, size, value, destination)
 }
 
-pub fn add<B: Board, C: Cabinet>(
+pub(crate) fn add<B: Board, C: Cabinet>(
     p: &mut Processor,
     board: &mut B,
     side: &mut C,
@@ -278,7 +278,7 @@ pub fn add<B: Board, C: Cabinet>(
     apply(p, board, side, Change::Add(value), destination)
 }
 
-pub fn subtract<B: Board, C: Cabinet>(
+pub(crate) fn subtract<B: Board, C: Cabinet>(
     p: &mut Processor,
     board: &mut B,
     side: &mut C,
@@ -294,7 +294,7 @@ pub fn subtract<B: Board, C: Cabinet>(
 }
 
 // MTPS.
-pub fn to_status<B: Board, C: Cabinet>(
+pub(crate) fn to_status<B: Board, C: Cabinet>(
     p: &mut Processor,
     board: &mut B,
     side: &mut C,

@@ -29,7 +29,7 @@ fn reset<C: Cabinet>(p: &mut Processor, side: &mut C) -> Result<Ending, Gone>
     Ok(Ending::Completed)
 }
 
-pub fn control<B: Board, C: Cabinet>(
+pub(crate) fn control<B: Board, C: Cabinet>(
     p: &mut Processor,
     board: &mut B,
     side: &mut C,
@@ -55,7 +55,7 @@ pub fn control<B: Board, C: Cabinet>(
 }
 
 // The flag words 000240 to 000277.
-pub fn reflag(p: &mut Processor, change: FlagChange, mask: FlagMask)
+pub(crate) fn reflag(p: &mut Processor, change: FlagChange, mask: FlagMask)
     ensures { λ _. ⌜ now (p .exit) ≡ reflagged change mask (now (p .entry)) ⌝ }
 {
     p.psw = change_flags(change, mask, Flags::of_status(p.psw)).put_into(p.psw);

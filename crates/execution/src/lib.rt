@@ -1,11 +1,14 @@
 // What each instruction does with registers, status word, memory and cabinet side.
-pub mod change;
-pub mod control;
-pub mod ending;
-pub mod instruction;
-pub mod stack;
-pub mod transfer;
+mod change;
+mod control;
+mod ending;
+mod instruction;
+mod laws;
+mod stack;
+mod transfer;
 
 pub use ending::Ending;
 pub use ending::Trap;
 pub use instruction::execute;
+pub use laws::register_words_stay_inside;
+pub use stack::push;

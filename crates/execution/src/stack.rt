@@ -12,7 +12,7 @@ use isa::Register;
 use operands::Processor;
 
 // The state with SP lowered, as a push leaves it.
-pub fn with_lowered_stack(p: Processor) -> Processor
+pub(crate) fn with_lowered_stack(p: Processor) -> Processor
     ensures { λ r. ⌜ r ≡ lowered p ⌝ }
 {
     let mut q = p;
@@ -34,7 +34,7 @@ pub fn push<B: Board, C: Cabinet>(
 }
 
 // The word at SP, which rises past it.
-pub fn pop<B: Board, C: Cabinet>(
+pub(crate) fn pop<B: Board, C: Cabinet>(
     p: &mut Processor,
     board: &mut B,
     side: &mut C,

@@ -22,7 +22,7 @@ use operands::Location;
 use operands::Processor;
 use operands::locate;
 
-pub fn branch(p: &mut Processor, condition: Condition, offset: i8)
+pub(crate) fn branch(p: &mut Processor, condition: Condition, offset: i8)
     ensures { λ _. ⌜ now (p .exit) ≡ branched condition offset (now (p .entry)) ⌝ }
 {
     if taken(condition, Flags::of_status(p.psw)) {
@@ -35,7 +35,7 @@ pub fn branch(p: &mut Processor, condition: Condition, offset: i8)
 }
 
 // SOB.
-pub fn count_down(p: &mut Processor, r: Register, back: u8)
+pub(crate) fn count_down(p: &mut Processor, r: Register, back: u8)
     ensures { λ _. ⌜ now (p .exit) ≡ looped r back (now (p .entry)) ⌝ }
 {
     p.set_register(r, p.register(r).wrapping_sub(1));
@@ -48,7 +48,7 @@ pub fn count_down(p: &mut Processor, r: Register, back: u8)
 }
 
 // JMP.
-pub fn jump<B: Board, C: Cabinet>(
+pub(crate) fn jump<B: Board, C: Cabinet>(
     p: &mut Processor,
     board: &mut B,
     side: &mut C,
@@ -102,7 +102,7 @@ fn call_at<B: Board, C: Cabinet>(
 }
 
 // JSR.
-pub fn call<B: Board, C: Cabinet>(
+pub(crate) fn call<B: Board, C: Cabinet>(
     p: &mut Processor,
     board: &mut B,
     side: &mut C,
@@ -133,7 +133,7 @@ fn pop_into<B: Board, C: Cabinet>(
 }
 
 // RTS.
-pub fn leave<B: Board, C: Cabinet>(
+pub(crate) fn leave<B: Board, C: Cabinet>(
     p: &mut Processor,
     board: &mut B,
     side: &mut C,
@@ -146,7 +146,7 @@ pub fn leave<B: Board, C: Cabinet>(
 }
 
 // MARK.
-pub fn mark<B: Board, C: Cabinet>(
+pub(crate) fn mark<B: Board, C: Cabinet>(
     p: &mut Processor,
     board: &mut B,
     side: &mut C,
@@ -178,7 +178,7 @@ fn pop_status<B: Board, C: Cabinet>(
 }
 
 // RTI and RTT, which differ only in how they end.
-pub fn restore<B: Board, C: Cabinet>(
+pub(crate) fn restore<B: Board, C: Cabinet>(
     p: &mut Processor,
     board: &mut B,
     side: &mut C,

@@ -1,10 +1,12 @@
 // The processor's state: registers, status word, and the marks that pass from step to step.
 ghost use mathlib.Core.Path.{_≡_};
+ghost use Rattle.std.specs.Orderings.{Decides};
 ghost use Rattle.operands.specs.State.{register, with-register};
+use bus::LineBits;
 use isa::Register;
 
 // Whether the processor runs, stopped at a HALT, died while entering a vector, or lost its cabinet side.
-#[derive(Clone, Copy)]
+#[derive(Clone, Copy, PartialEq, Eq)]
 pub enum Life {
     Running,
     Halted,
@@ -12,17 +14,8 @@ pub enum Life {
     Ended,
 }
 
-// The request lines as last sampled; true is active.
-#[derive(Clone, Copy)]
-pub struct Lines {
-    pub aclo: bool,
-    pub irq2: bool,
-    pub irq3: bool,
-    pub virq: bool,
-}
-
 // Requests set by a line that became active, and not entered yet.
-#[derive(Clone, Copy)]
+#[derive(Clone, Copy, PartialEq, Eq)]
 pub struct Requests {
     pub aclo: bool,
     pub irq2: bool,
@@ -34,7 +27,7 @@ pub struct Requests {
 pub struct Processor {
     pub registers: [u16; 8],
     pub psw: u16,
-    pub lines: Lines,
+    pub lines: LineBits,
     pub requests: Requests,
     pub trace: bool,
     pub waiting: bool,
@@ -55,3 +48,32 @@ impl Processor {
         self.registers[r as usize] = word;
     }
 }
+
+fn same_registers(a: &[u16; 8], b: &[u16; 8]) -> bool
+    ensures { λ r. ⌜ Decides r (now (a .entry) ≡ now (b .entry)) ⌝ }
+{
+    a == b
+}
+
+fn same_lines(a: LineBits, b: LineBits) -> bool
+    ensures { λ r. ⌜ Decides r (a ≡ b) ⌝ }
+{
+    a.aclo == b.aclo && a.irq2 == b.irq2 && a.irq3 == b.irq3 && a.virq == b.virq
+}
+
+// States are equal in all their parts.
+pub impl PartialEq<Processor> for Processor as ProcessorPartialEq {
+    ghost equals = { λ p q r. Decides r (p ≡ q) };
+
+    fn eq(&self, other: &Processor) -> bool {
+        same_registers(&self.registers, &other.registers)
+            && self.psw == other.psw
+            && same_lines(self.lines, other.lines)
+            && self.requests == other.requests
+            && self.trace == other.trace
+            && self.waiting == other.waiting
+            && self.life == other.life
+    }
+}
+
+pub impl Eq for Processor as ProcessorEq {}

@@ -5,15 +5,15 @@ use Rattle.std.specs.declared.option.Option.{Option}
 use Rattle.std.specs.declared.option.Option.the-variants.{Some, None}
 use Rattle.bus.specs.declared.exchange.Reply.{Reply}
 use Rattle.bus.specs.declared.exchange.Reply.the-variants.{Answered, TimedOut}
+use Rattle.bus.specs.declared.panel.LineBits.{LineBits}
 use Rattle.arithmetic.specs.Status.{odd}
-use Rattle.operands.specs.declared.state.Lines.{Lines}
 use Rattle.operands.specs.declared.state.Requests.{Requests}
 use Rattle.operands.specs.declared.state.Processor.{Processor}
 use Rattle.processor.specs.declared.sample.Accepted.{Accepted}
 use Rattle.processor.specs.declared.sample.Accepted.the-variants.{Aclo, Irq2, Irq3, Virq}
 
 -- The lines of an answer, where 1 is active: bit 0 ACLO, 1 IRQ2, 2 IRQ3, 3 VIRQ. (The request for them never times out.)
-abbrev pub lines-of : Reply → Lines
+abbrev pub lines-of : Reply → LineBits
 lines-of (Answered w) = record { aclo = odd w; irq2 = odd (w / 2); irq3 = odd (w / 4); virq = odd (w / 8) }
 lines-of TimedOut = record { aclo = false; irq2 = false; irq3 = false; virq = false }
 
@@ -21,7 +21,7 @@ lines-of TimedOut = record { aclo = false; irq2 = false; irq3 = false; virq = fa
 abbrev pub requested : Bool → Bool → Bool → Bool
 requested before last current = before || (current && not last)
 
-abbrev pub sampled : Lines → Processor → Processor
+abbrev pub sampled : LineBits → Processor → Processor
 sampled l p = record {
   registers = p .registers;
   psw = p .psw;

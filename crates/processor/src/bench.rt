@@ -10,9 +10,9 @@ use crate::step::attempt;
 use bus::Board;
 use bus::Cabinet;
 use bus::Gone;
+use bus::LineBits;
 use bus::Request;
 use operands::Life;
-use operands::Lines;
 use operands::Processor;
 use operands::Requests;
 
@@ -36,7 +36,7 @@ fn cleared_processor(pc: u16, psw: u16) -> Processor
     Processor {
         registers: [0, 0, 0, 0, 0, 0, 0, pc],
         psw,
-        lines: Lines {
+        lines: LineBits {
             aclo: false,
             irq2: false,
             irq3: false,

@@ -10,13 +10,13 @@ use bus::Board;
 use bus::Cabinet;
 use bus::Gone;
 use bus::load;
-use execution::stack::push;
+use execution::push;
 use isa::Register;
 use operands::Life;
 use operands::Processor;
 
 // A time-out while entering is the end.
-pub fn die(p: &mut Processor) -> Answer
+pub(crate) fn die(p: &mut Processor) -> Answer
     ensures answer { λ r. ⌜ r ≡ Died ⌝ }
     ensures left { λ _. ⌜ now (p .exit) ≡ with-life (now (p .entry)) Dead ⌝ }
 {
@@ -76,7 +76,7 @@ fn push_pc<B: Board, C: Cabinet>(
 }
 
 // Enters a vector.
-pub fn enter<B: Board, C: Cabinet>(
+pub(crate) fn enter<B: Board, C: Cabinet>(
     p: &mut Processor,
     board: &mut B,
     side: &mut C,

@@ -2,14 +2,14 @@
 ghost use mathlib.Core.Path.{_≡_};
 ghost use Rattle.arithmetic.specs.Status.{odd};
 ghost use Rattle.processor.specs.Sampling.{lines-of, sampled, traces, masks, accepted};
+use bus::LineBits;
 use bus::Reply;
-use operands::Lines;
 use operands::Processor;
 use operands::Requests;
 
 // A request that interrupts the processor.
 #[derive(Clone, Copy)]
-pub enum Accepted {
+pub(crate) enum Accepted {
     Aclo,
     Irq2,
     Irq3,
@@ -22,17 +22,17 @@ fn is_odd(n: u16) -> bool
     n % 2 == 1
 }
 
-pub fn lines_in(reply: Reply) -> Lines
+pub(crate) fn lines_in(reply: Reply) -> LineBits
     ensures { λ r. ⌜ r ≡ lines-of reply ⌝ }
 {
     match reply {
-        Reply::Answered(word) => Lines {
+        Reply::Answered(word) => LineBits {
             aclo: is_odd(word),
             irq2: is_odd(word / 2),
             irq3: is_odd(word / 4),
             virq: is_odd(word / 8),
         },
-        Reply::TimedOut => Lines {
+        Reply::TimedOut => LineBits {
             aclo: false,
             irq2: false,
             irq3: false,
@@ -42,7 +42,7 @@ pub fn lines_in(reply: Reply) -> Lines
 }
 
 // Takes note of the lines, and of those that have become active.
-pub fn sample(p: &mut Processor, lines: Lines)
+pub(crate) fn sample(p: &mut Processor, lines: LineBits)
     ensures { λ _. ⌜ now (p .exit) ≡ sampled lines (now (p .entry)) ⌝ }
 {
     p.requests = Requests {
@@ -54,7 +54,7 @@ pub fn sample(p: &mut Processor, lines: Lines)
 }
 
 // Whether T is set.
-pub fn is_tracing(psw: u16) -> bool
+pub(crate) fn is_tracing(psw: u16) -> bool
     ensures { λ r. ⌜ r ≡ traces psw ⌝ }
 {
     is_odd(psw / 16)
@@ -68,7 +68,7 @@ fn is_masking(psw: u16) -> bool
 }
 
 // The first request that applies.
-pub fn accept_first(p: &Processor) -> Option<Accepted>
+pub(crate) fn accept_first(p: &Processor) -> Option<Accepted>
     ensures { λ r. ⌜ r ≡ accepted (now (p .entry)) ⌝ }
 {
     if p.requests.aclo {

@@ -149,7 +149,7 @@ fn choose<B: Board, C: Cabinet>(
 }
 
 // One step, with no guard: where the side is gone the processor is left as it was then.
-pub fn attempt<B: Board, C: Cabinet>(
+pub(crate) fn attempt<B: Board, C: Cabinet>(
     p: &mut Processor,
     board: &mut B,
     side: &mut C,
