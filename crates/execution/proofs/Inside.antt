@@ -34,9 +34,9 @@ inside-bind : {X Y : Type 0} {p : Act X} {f : X → Act Y} → StaysInside p →
 inside-bind {f = f} h k =
     record {
       ends = λ m v t.
-        let a = h .ends m v t in
-        let b = k (a .0) .ends m v t in
-        (b .0, ap (λ z. onto (λ y. feed (f y)) (z .0) (z .1) (z .2) (z .3)) (a .1) ∙ b .1);
+          let a = h .ends m v t in
+          let b = k (a .0) .ends m v t in
+          (b .0, ap (λ z. onto (λ y. feed (f y)) (z .0) (z .1) (z .2) (z .3)) (a .1) ∙ b .1);
     }
 
 inside-option : {X Y : Type 0} {p : Act Y} {f : X → Act Y} → StaysInside p → ((x : X) → StaysInside (f x)) → (o : Option X) → StaysInside (elim o [ None ↦ p | Some x ↦ f x ])
