@@ -10,8 +10,7 @@ use Rattle.isa.specs.declared.instruction.Instruction.{Instruction}
 use Rattle.isa.specs.declared.instruction.Instruction.the-variants as word
 use Rattle.bus.specs.declared.exchange.Request.the-variants.{Init}
 use Rattle.bus.specs.Courses.{Act, done, asks, bind}
-use Rattle.arithmetic.specs.Status.{flags-of, with-flags, changed-flags}
-use Rattle.arithmetic.specs.Words.{from-status-outcome}
+use Rattle.arithmetic.specs.Status.{flags-of, with-flags, changed-flags, from-status-outcome}
 use Rattle.operands.specs.declared.state.Life.the-variants.{Halted}
 use Rattle.operands.specs.declared.state.Processor.{Processor}
 use Rattle.operands.specs.State.{register, with-psw, with-life, with-waiting, with-requests}

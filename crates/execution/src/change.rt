@@ -6,7 +6,6 @@ ghost use Rattle.execution.specs.Changes.{size, outcome, writes, flagged, conc
 use crate::ending::Ending;
 use arithmetic::Flags;
 use arithmetic::Outcome;
-use arithmetic::load_status;
 use arithmetic::sign_spread;
 use bus::Board;
 use bus::Cabinet;
@@ -305,6 +304,6 @@ pub(crate) fn to_status<B: Board, C: Cabinet>(
     let Some(byte) = read(p, board, side, Size::Byte, source)? else {
         return Ok(Ending::TimedOut);
     };
-    p.psw = load_status(p.psw, byte);
+    p.psw = arithmetic::to_status(p.psw, byte);
     Ok(Ending::Completed)
 }
