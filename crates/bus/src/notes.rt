@@ -2,13 +2,16 @@
 ghost use mathlib.Core.Path.{_≡_};
 ghost use mathlib.Core.Bool.{cond};
 ghost use mathlib.Core.List.{[]};
-ghost use Prim.Native.Nat.{_+_};
+ghost use Prim.Native.Nat.{_+_, min};
 ghost use lib.Dec.{ltb};
 ghost use lib.ListN.{length, set};
 ghost use Rattle.bus.specs.Taps.{listed, noted};
 use crate::exchange::Exchange;
 use crate::exchange::Reply;
 use crate::exchange::Request;
+
+// How many exchanges there is place for.
+const PLACES: usize = 11;
 
 #[derive(Clone, Copy)]
 pub struct Notes {
@@ -26,6 +29,16 @@ fn fill(table: &mut [Exchange], count: usize, exchange: Exchange) -> usize
         return count + 1;
     }
     count
+}
+
+// How many places are filled at a count: no more than there are.
+fn capped(count: usize) -> usize
+    ensures { λ r. ⌜ r ≡ min count 11 ⌝ }
+{
+    if count < PLACES {
+        return count;
+    }
+    PLACES
 }
 
 impl Notes {
@@ -54,6 +67,6 @@ impl Notes {
     pub fn exchanges(&self) -> &[Exchange]
         ensures { λ r. ⌜ now r ≡ listed (now (self .entry)) ⌝ }
     {
-        &self.table[0..self.count.min(self.table.len())]
+        &self.table[0..capped(self.count)]
     }
 }

@@ -11,5 +11,5 @@ returns c =
     let table = c .args .self .now .table in
     let count = c .args .self .now .count in
     let len : length table ≡ 11 = search needs in
-    let n : c .min .result - 0 ≡ min count 11 = omega (arith, c .min .ensures) in
+    let n : c .capped .result - 0 ≡ min count 11 = omega (arith, c .capped .ensures) in
     ap (λ k. take k table) n ∙ take-min count 11 table len
