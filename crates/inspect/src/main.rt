@@ -1,20 +1,16 @@
 // Lists the records of capture.cap, or says why and where it is no capture.
-mod fields;
-mod line;
-mod place;
-mod totals;
 
 use capture::Feed;
 use capture::Refusal;
 use capture::block::BLOCK;
-use line::record_line;
-use place::refused_block;
-use place::refused_byte;
+use inspection::Totals;
+use inspection::record_line;
+use inspection::refused_block;
+use inspection::refused_byte;
+use inspection::totals::TotalsDefault;
 use std::alloc::Global;
 use std::fs;
 use std::io;
-use totals::Totals;
-use totals::TotalsDefault;
 
 const NAME: &str = "capture.cap";
 
