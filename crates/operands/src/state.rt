@@ -42,10 +42,11 @@ impl Processor {
         self.registers[r as usize]
     }
 
-    pub fn set_register(&mut self, r: Register, word: u16)
-        ensures { λ _. ⌜ now (self .exit) ≡ with-register (now (self .entry)) r word ⌝ }
+    // Puts a word into a register.
+    pub fn set_register(&mut self, which: Register, word: u16)
+        ensures { λ _. ⌜ now (self .exit) ≡ with-register (now (self .entry)) which word ⌝ }
     {
-        self.registers[r as usize] = word;
+        self.registers[which as usize] = word;
     }
 }
 

@@ -123,7 +123,7 @@ idleness =
     record {
       idle = λ p m used lines es h.
           let q = sampled (lines-of lines) p in
-          (q, (ap (closes p) (idle-branch (p .life) (p .trace) (p .waiting) (accepted q) q m (used + 1) es h), record { registers = refl; psw = refl; trace = refl; waiting = refl; life = refl }));
+          (q, (ap (closes p) (idle-branch (p .life) (p .trace) (p .waiting) (accepted q) q m (used + 1) es h), refl, record { registers = refl; psw = refl; trace = refl; waiting = refl; life = refl }));
     }
 
 -- the branch of a traced processor

@@ -25,7 +25,7 @@ use Rattle.processor.specs.declared.bench.Job.the-variants.{Step}
 use Rattle.processor.specs.declared.sample.Accepted.{Accepted}
 use Rattle.processor.specs.declared.sample.Accepted.the-variants.{Aclo, Irq2, Irq3, Virq}
 use Rattle.processor.specs.Entering.{enters}
-use Rattle.processor.specs.Sampling.{masks, accepted}
+use Rattle.processor.specs.Sampling.{lines-of, masks, accepted}
 use Rattle.processor.specs.Stepping.{chooses}
 use Rattle.processor.specs.Jobs.{Standing, standing, does, Performed}
 
@@ -68,6 +68,7 @@ pub record Idleness : Type 0 where
   pub idle : (p : Processor) (m : Memory) (used : ℕ) (lines : Reply) (es : List Exchange) → (p .life ≡ Running → ⊥)
       → (q : Processor)
       × ((does Step (standing p m used (record { request = Lines; reply = lines } ∷ es)) ≡ (Ok Idle, standing q m (used + 1) es))
+      × (q .lines ≡ lines-of lines)
       × AlikeButForLines p q)
 
 -- When each request is the one accepted: none with a request before it, and with P set ACLO alone.

@@ -220,3 +220,27 @@ fn halting_waiting_and_tracing() -> Result<(), Fail> {
         ),
     )
 }
+
+// RTI lets 14 be entered at once where T comes back set; RTT lets one instruction go first.
+#[test]
+fn returning_to_a_trace() -> Result<(), Fail> {
+    check_eq(ran(&[2, 0o20], &[], 0, 2), ([0, 0, 0o1000, 0o2014, 0], 'E'))?;
+    // the word 6 of RTT itself is popped as PC, where NOP stands
+    check_eq(
+        ran(&[6, 0o20], &[(6, 0o240)], 0, 2),
+        ([0, 0, 0o1004, 0o10, 0o20], 'G'),
+    )?;
+    check_eq(
+        ran(&[6, 0o20], &[(6, 0o240)], 0, 3),
+        ([0, 0, 0o1000, 0o2014, 0], 'E'),
+    )
+}
+
+// JMP to 1005 fetches the NOP at 1004, and PC rises by 2.
+#[test]
+fn an_odd_pc() -> Result<(), Fail> {
+    check_eq(
+        ran(&[0o137, 0o1005, 0o240], &[], 0, 2),
+        ([0, 0, 0o1000, 0o1007, 0], 'G'),
+    )
+}

@@ -15,9 +15,9 @@ use processor::Job;
 use processor::perform;
 
 // Programs start here, with SP just below them.
-pub const START: u16 = 0o1000;
+pub(crate) const START: u16 = 0o1000;
 
-pub const QUIET: LineBits = LineBits {
+pub(crate) const QUIET: LineBits = LineBits {
     aclo: false,
     irq2: false,
     irq3: false,
@@ -39,7 +39,7 @@ const VECTORS: [(u16, u16); 10] = [
 ];
 
 // G went on, E entered a vector, W waiting, H halted, D dead, I idle, X the side was gone.
-pub fn letter(answer: Result<Answer, Gone>) -> char {
+pub(crate) fn letter(answer: Result<Answer, Gone>) -> char {
     match answer {
         Ok(Answer::WentOn) => 'G',
         Ok(Answer::Entered) => 'E',
@@ -52,14 +52,14 @@ pub fn letter(answer: Result<Answer, Gone>) -> char {
 }
 
 // Writes words at their addresses.
-pub fn put<B: Board>(board: &mut B, words: &[(u16, u16)]) {
+pub(crate) fn put<B: Board>(board: &mut B, words: &[(u16, u16)]) {
     for (at, word) in words {
         let _ = board.write(*at, *word);
     }
 }
 
 // Writes a program at its place.
-pub fn place<B: Board>(board: &mut B, program: &[u16]) {
+pub(crate) fn place<B: Board>(board: &mut B, program: &[u16]) {
     let mut at = START;
     for word in program {
         let _ = board.write(at, *word);
@@ -68,12 +68,12 @@ pub fn place<B: Board>(board: &mut B, program: &[u16]) {
 }
 
 // One step.
-pub fn step<B: Board, C: Cabinet>(bench: &mut Bench, board: &mut B, side: &mut C) -> char {
+pub(crate) fn step<B: Board, C: Cabinet>(bench: &mut Bench, board: &mut B, side: &mut C) -> char {
     letter(perform(bench, board, side, Job::Step))
 }
 
 // Restarts at `pc`, sets SP, and says how so many steps end, the last of them.
-pub fn go<B: Board, C: Cabinet>(
+pub(crate) fn go<B: Board, C: Cabinet>(
     bench: &mut Bench,
     board: &mut B,
     side: &mut C,
@@ -90,7 +90,7 @@ pub fn go<B: Board, C: Cabinet>(
 }
 
 // R0, R1, SP, PC and PSW.
-pub fn shown(p: &Processor) -> [u16; 5] {
+pub(crate) fn shown(p: &Processor) -> [u16; 5] {
     [
         p.register(Register::R0),
         p.register(Register::R1),
@@ -101,7 +101,7 @@ pub fn shown(p: &Processor) -> [u16; 5] {
 }
 
 // A program, and other words, on a flat board with a quiet panel: what is shown after so many steps from this PSW.
-pub fn ran(program: &[u16], others: &[(u16, u16)], psw: u16, steps: u8) -> ([u16; 5], char) {
+pub(crate) fn ran(program: &[u16], others: &[(u16, u16)], psw: u16, steps: u8) -> ([u16; 5], char) {
     let mut bytes = [0u8; 65_536];
     let Ok(size) = FlatBoard::question(bytes.len()) else {
         return ([0; 5], '?');
