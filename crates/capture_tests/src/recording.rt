@@ -127,7 +127,7 @@ fn run_questions(rt: &LibcRuntime) -> io::Result<()> {
     Ok(())
 }
 
-pub fn run_recordings(rt: &LibcRuntime) -> io::Result<()> {
+pub(crate) fn run_recordings(rt: &LibcRuntime) -> io::Result<()> {
     run_questions(rt)?;
     run_recording(rt, 1, 4, "recorded_1_4.cap")?;
     run_recording(rt, 2, 4, "recorded_2_4.cap")?;
