@@ -1,7 +1,8 @@
 // Reading a line back: the words that it is the listing of.
 ghost use mathlib.Core.Path.{_≡_};
 ghost use mathlib.Core.List.{List};
-ghost use Prim.Native.Nat.{ℕ};
+ghost use Prim.Native.Nat.{ℕ, _≤_};
+ghost use lib.ListN.{take};
 ghost use Rattle.std.specs.Orderings.{Decides};
 ghost use Rattle.listing.specs.Listing.{text};
 ghost use Rattle.line_reader.specs.Back.{Words, Found, Answers, readAs};
@@ -60,19 +61,30 @@ pub fn read_back(address: u16, line: &[u8]) -> ReadBack
     }
 }
 
+// Lists words into `out`, and answers the length of the text.
+fn listed_length(address: u16, words: [u16; 3], out: &mut [u8; LONGEST_LINE]) -> usize
+    ensures written { λ r. ⌜ take r (now (out .exit)) ≡ text address words ⌝ }
+    ensures fits { λ r. ⌜ r ≤ 28 ⌝ }
+{
+    match list(address, words, out) {
+        Ok(listed) => listed.length,
+        Err(_) => 0,
+    }
+}
+
+// Reads a line back that is known to be the listing of these words.
+fn read_listing(address: u16, words: [u16; 3], line: &[u8]) -> ReadBack
+    requires { ⌜ text address words ≡ now line ⌝ }
+    ensures { λ r. ⌜ r ≡ readAs words ⌝ }
+{
+    read_back(address, line)
+}
+
 // Lists words and reads the listing back: it gives the words that were used, then zeros.
 pub fn list_and_read_back(address: u16, words: [u16; 3]) -> ReadBack
     ensures { λ r. ⌜ r ≡ readAs words ⌝ }
 {
     let mut out = [0; LONGEST_LINE];
-    match list(address, words, &mut out) {
-        Ok(listed) => {
-            let length = listed.length;
-            read_back(address, &out[0..length])
-        }
-        Err(refusal) => ReadBack {
-            words: [0; 3],
-            refusal: Some(refusal),
-        },
-    }
+    let length = listed_length(address, words, &mut out);
+    read_listing(address, words, &out[0..length])
 }
