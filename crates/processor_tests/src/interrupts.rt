@@ -35,6 +35,13 @@ const IRQ3: LineBits = LineBits {
     virq: false,
 };
 
+const VIRQ: LineBits = LineBits {
+    aclo: false,
+    irq2: false,
+    irq3: false,
+    virq: true,
+};
+
 // Sets the lines and makes a step: PC after it.
 fn after(bench: &mut Bench, board: &mut FlatBoard<'_>, panel: &mut Panel, lines: LineBits) -> u16 {
     panel.set([0; 64], lines, 0o63);
@@ -113,6 +120,24 @@ fn dropped_by_reset() -> Result<(), Fail> {
             0o200,
             0,
             [IRQ2, QUIET, QUIET, QUIET],
+        ),
+        [0o1002, 0o1004, 0o1010, 0o1012],
+    )
+}
+
+// VIRQ counts while it is active: it is entered again and again, and forgotten where P kept it out; at 2060 stands HALT.
+#[test]
+fn virq_by_its_level() -> Result<(), Fail> {
+    check_eq(
+        entered(&[0o240], 0, 0, [QUIET, VIRQ, VIRQ, QUIET]),
+        [0o1002, 0o2060, 0o2060, 0o2062],
+    )?;
+    check_eq(
+        entered(
+            &[0o240, 0o240, 0o106427, 0, 0o240],
+            0o200,
+            0,
+            [VIRQ, VIRQ, QUIET, QUIET],
         ),
         [0o1002, 0o1004, 0o1010, 0o1012],
     )
