@@ -13,5 +13,6 @@ abbrev pub sumFrom : ℕ → List ℕ → ℕ
 sumFrom i [] = 0
 sumFrom i (x ∷ xs) = partAt i x + sumFrom (i + 1) xs
 
+-- the sum of a block: words wrap at 65,536
 abbrev pub blockSum : List ℕ → ℕ
 blockSum bytes = sumFrom 0 bytes % 65536

@@ -16,6 +16,7 @@ use Rattle.capture.specs.Words.{both, either}
 use Rattle.capture.specs.Records.{Plain, plain}
 use Rattle.capture.specs.Lawful.{onPage, even, lawful}
 
+-- an exchange from request and reply
 abbrev pub exchange : Request → Reply → Exchange
 exchange q r = record { request = q; reply = r }
 
@@ -83,6 +84,7 @@ exchangeWith k m a w =
     (cond (eqb k 5) (exchange Vector (replyWith m w))
     (exchange Init (replyWith m 0))))))
 
+-- the same of a record
 abbrev pub exchangeOf : Plain → Exchange
 exchangeOf p = exchangeWith (p .kind) (p .mark) (p .address) (p .word)
 
@@ -110,6 +112,7 @@ lawfulReply Lines r = fourLines r
 lawfulReply Vector r = true
 lawfulReply Init r = plainlyAnswered r
 
+-- a lawful reply to its request
 abbrev pub lawfulExchange : Exchange → Bool
 lawfulExchange e = lawfulReply (e .request) (e .reply)
 
@@ -117,6 +120,7 @@ lawfulExchange e = lawfulReply (e .request) (e .reply)
 abbrev pub sameRequest : Request → Request → Bool
 sameRequest q r = both (eqb (kindOf q) (kindOf r)) (both (eqb (addressOf q) (addressOf r)) (eqb (sentBy q) (sentBy r)))
 
+-- what a request gets that finds the side gone
 abbrev pub gone : Gone
 gone = record {}
 

@@ -28,17 +28,21 @@ addedOf (kinds.Lines w x) = now x
 addedOf (kinds.Vector r x) = now x
 addedOf (kinds.Init x) = now x
 
+-- both together
 abbrev pub seen : Record → Entry
 seen r = entry (addedOf r) (shown r)
 
+-- the same of what is handed out, if anything is
 abbrev pub given : Option Record → Option Entry
 given None = None
 given (Some r) = Some (seen r)
 
+-- the first of a list, if there is one
 abbrev pub headOf : List Entry → Option Entry
 headOf [] = None
 headOf (x ∷ xs) = Some x
 
+-- the others
 abbrev pub tailOf : List Entry → List Entry
 tailOf [] = []
 tailOf (x ∷ xs) = xs

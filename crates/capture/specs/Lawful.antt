@@ -12,6 +12,7 @@ use Rattle.capture.specs.Records.{Plain}
 abbrev pub onPage : ℕ → Bool
 onPage a = both (leb 0o177600 a) (leb a 0o177777)
 
+-- words stand at even addresses
 abbrev pub even : ℕ → Bool
 even a = eqb (a % 2) 0
 
@@ -29,6 +30,7 @@ rules k m a w =
     (cond (eqb k 5) (both (eqb a 0) (wordIfAnswered m w))
     (cond (eqb k 6) (both (eqb a 0) (both (eqb m 1) (eqb w 0))) false)))))
 
+-- mark 0 or 1, and the rules of the kind
 abbrev pub lawful : Plain → Bool
 lawful p = both (leb (p .mark) 1) (rules (p .kind) (p .mark) (p .address) (p .word))
 
@@ -36,6 +38,7 @@ lawful p = both (leb (p .mark) 1) (rules (p .kind) (p .mark) (p .address) (p .wo
 abbrev pub writable : Plain → Bool
 writable p = both (lawful p) (ltb (p .word) 65536)
 
+-- the same of each
 abbrev pub allWritable : List Plain → Bool
 allWritable [] = true
 allWritable (p ∷ ps) = both (writable p) (allWritable ps)

@@ -46,6 +46,7 @@ Records-read-are-lawful = (bytes : List ℕ) → All (λ e. lawful (e .plain) �
 abbrev pub Blocks-add-up : Type 0
 Blocks-add-up = (bytes : List ℕ) (es : List Entry) → readCapture bytes ≡ Ok es → (b : ℕ) → 512 * b < length bytes → blockSum (blockAt bytes b) ≡ 0
 
+-- The laws together.
 pub record Capture-laws : Type 0 where
   pub sheets : Sheets-read-back
   pub records : Only-records-count

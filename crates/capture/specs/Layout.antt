@@ -15,6 +15,7 @@ pub record Sheet : Type 0 where
   pub records : List Written
   pub unused : List ℕ
 
+-- the record bytes of a sheet
 abbrev pub bodyOf : Sheet → List ℕ
 bodyOf s = joined (map recordBytes (s .records))
 

@@ -11,6 +11,7 @@ pub record Plain : Type 0 where
   pub address : ℕ
   pub word : ℕ
 
+-- a record from kind, mark, address and word
 abbrev pub plain : ℕ → ℕ → ℕ → ℕ → Plain
 plain k m a w = record { kind = k; mark = m; address = a; word = w }
 
@@ -19,9 +20,11 @@ pub record Entry : Type 0 where
   pub plain : Plain
   pub added : List ℕ
 
+-- an entry from added bytes and a record
 abbrev pub entry : List ℕ → Plain → Entry
 entry x p = record { plain = p; added = x }
 
+-- an entry without its added bytes
 abbrev pub plainOf : Entry → Plain
 plainOf e = e .plain
 
@@ -30,9 +33,11 @@ pub record Written : Type 0 where
   pub spare : ℕ
   pub entry : Entry
 
+-- a record from its spare byte and its entry
 abbrev pub written : ℕ → Entry → Written
 written s e = record { spare = s; entry = e }
 
+-- a record in a file without its spare byte
 abbrev pub entryOf : Written → Entry
 entryOf w = w .entry
 

@@ -12,8 +12,10 @@ wordBytes w = (w % 256) ∷ (w / 256 % 256) ∷ []
 abbrev pub wordAt : List ℕ → ℕ → ℕ
 wordAt bytes place = getD bytes place 0 + 256 * getD bytes (place + 1) 0
 
+-- both tests
 abbrev pub both : Bool → Bool → Bool
 both x y = cond x y false
 
+-- one test or the other
 abbrev pub either : Bool → Bool → Bool
 either x y = cond x true y

@@ -18,6 +18,7 @@ kindText k =
     (cond (eqb k 5) (codes "vector")
     (codes "INIT")))))
 
+-- a mark in words
 abbrev pub markText : ℕ → List ℕ
 markText m = cond (eqb m 1) (codes "answered") (codes "timed out")
 

@@ -12,6 +12,7 @@ use Rattle.recorder.specs.Recording.{headerAllowed}
 abbrev pub opening : ℕ → ℕ → Result Unit Refusal
 opening len h = cond (wholeBlocks len) (cond (headerAllowed h) (Ok tt) (Err Header)) (Err Blocks)
 
+-- the number of each refusal
 abbrev pub openingNumber : Refusal → ℕ
 openingNumber Blocks = 3
 openingNumber Header = 4
