@@ -11,7 +11,7 @@ use Rattle.bus.specs.declared.exchange.Gone.{Gone}
 use Rattle.bus.specs.declared.exchange.Exchange.{Exchange}
 use Rattle.bus.specs.Memory.{Memory}
 use Rattle.bus.specs.Exchanges.{all-lawful}
-use Rattle.bus.specs.Courses.{Act, done, asks, bind, Meaning, Becoming}
+use Rattle.bus.specs.Courses.{Act, done, asks, bind, Meaning, Becoming, Played}
 use Rattle.bus.specs.Feeds.{Out, feed, lost?, Made}
 use Rattle.operands.specs.declared.state.Life.the-variants.{Running, Halted, Ended}
 use Rattle.operands.specs.declared.state.Processor.{Processor}
@@ -67,6 +67,12 @@ closes p z = (settled p (z .0) .0, standing (settled p (z .0) .1) (z .1) (z .2) 
 -- What a job answers and comes to.
 unfoldable pub does : Job → Standing → Result Answer Gone × Standing
 does j s = closes (s .processor) (feed (courses j (s .processor)) (s .memory) (s .used) (s .rest))
+
+-- A job over any side, request by request: its course was played there, and settled.
+pub record Carried {S : Type 0} (means : Meaning S) (becomes : Becoming S) (j : Job) (p : Processor) (m : Memory) (s : S) (r : Result Answer Gone) (p2 : Processor) (m2 : Memory) (s2 : S) : Type 0 where
+  pub end : Result (Answer × Processor) Gone
+  pub played : Played means becomes (courses j p) m s end m2 s2
+  pub settles : (r, p2) ≡ settled p end
 
 -- A job over any side: the side made some lawful exchanges one by one, at most eleven, and was then found gone where the
 -- answer says so; from exactly these exchanges the job comes to this answer, processor and memory.

@@ -4,7 +4,7 @@ ghost use Rattle.bus.specs.Courses.{Played};
 ghost use Rattle.bus.specs.Memory.{Memory};
 ghost use Rattle.operands.specs.State.{beside, with-life};
 ghost use Rattle.operands.specs.declared.state.Life.the-variants.{Ended};
-ghost use Rattle.processor.specs.Jobs.{cleared, new, restarts, courses, Performed};
+ghost use Rattle.processor.specs.Jobs.{cleared, new, restarts, courses, Carried, Performed};
 use crate::answer::Answer;
 use crate::step::attempt;
 use bus::Board;
@@ -120,6 +120,7 @@ pub fn perform<B: Board, C: Cabinet>(
     side: &mut C,
     job: Job,
 ) -> Result<Answer, Gone>
+    ensures carried { λ r. ⌜ Carried (C·Cabinet .meaning) (C·Cabinet .becomes) job (now (bench .entry) .processor) (B·Board .meaning (now (board .entry))) (now (side .entry)) r (now (bench .exit) .processor) (B·Board .meaning (now (board .exit))) (now (side .exit)) ⌝ }
     ensures performed { λ r. ⌜ Performed (C·Cabinet .meaning) (C·Cabinet .becomes) job (now (bench .entry) .processor) (B·Board .meaning (now (board .entry))) (now (side .entry)) r (now (bench .exit) .processor) (B·Board .meaning (now (board .exit))) (now (side .exit)) ⌝ }
     ensures saved { λ _. ⌜ now (bench .exit) .saved ≡ now (bench .entry) .processor ⌝ }
 {

@@ -16,6 +16,12 @@ returns g c =
     let h = performed (c .args .job) (c .args .bench .now .processor) _ (c .in-Continue-answer .ensures tt) in
     let P : Processor → Type 0 = λ q. Performed (g .C·Cabinet .meaning) (g .C·Cabinet .becomes) (c .args .job) (c .args .bench .now .processor) (g .B·Board .meaning (c .args .board .now)) (c .args .side .now) (Ok (c .in-Continue-answer .answer)) q (g .B·Board .meaning (c .work .last .board)) (c .work .last .side) in
     record {
+      carried =
+          record {
+            end = Ok (c .in-Continue-answer .answer, c .work .last .p);
+            played = c .in-Continue-answer .ensures tt;
+            settles = ap (λ x. (Ok (c .in-Continue-answer .answer), x .processor)) (c .settle .ensures);
+          };
       performed = subst P (ap (λ x. x .processor) (sym (c .settle .ensures))) h;
       saved = ap (λ x. x .saved) (c .settle .ensures);
     }
