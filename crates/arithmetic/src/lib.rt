@@ -1,4 +1,6 @@
 // What every operation makes of its operands: results, flags, branch conditions.
+#![tactic(auto)]
+
 pub mod branch;
 pub mod flags;
 pub mod laws;

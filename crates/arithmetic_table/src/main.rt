@@ -1,4 +1,6 @@
 // Runs a table of operations at the edges of their operands, and says where the library answers otherwise.
+#![tactic(auto)]
+
 mod name;
 mod row;
 

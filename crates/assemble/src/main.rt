@@ -1,4 +1,6 @@
 // Reads lines of an address and a listing, and prints the words of each, or the number of its refusal.
+#![tactic(auto)]
+
 use anyhow::anyhow;
 use line_reader::read_back;
 

@@ -1,4 +1,6 @@
 // What the processor speaks to: memory boards and cabinet sides.
+#![tactic(auto)]
+
 pub mod access;
 pub mod board;
 pub mod cabinet;

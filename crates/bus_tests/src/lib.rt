@@ -1,4 +1,6 @@
 // Boards, panel and tap at their edges.
+#![tactic(auto)]
+
 #[cfg(test)]
 mod boards;
 #[cfg(test)]

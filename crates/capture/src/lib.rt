@@ -1,4 +1,6 @@
 // Captures: cabinet exchanges as records in blocks of 512 bytes. Here bytes are checked, and what passed is read.
+#![tactic(auto)]
+
 pub mod block;
 pub mod checks;
 pub mod feed;

@@ -1,5 +1,7 @@
 // Runs the captures of data/ through the check, the feed and the recorder; what is printed is compared with stdout, which was
 // worked out from the layout alone.
+#![tactic(auto)]
+
 mod recording;
 
 use capture::block::{BLOCK, MOST_BLOCKS};

@@ -1,4 +1,6 @@
 // Lists the instructions of a board's image, one line each: address, words and instruction.
+#![tactic(auto)]
+
 mod faults;
 mod rows;
 

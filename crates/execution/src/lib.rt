@@ -1,4 +1,6 @@
 // What each instruction does with registers, status word, memory and cabinet side.
+#![tactic(auto)]
+
 mod change;
 mod control;
 mod ending;

@@ -1,4 +1,6 @@
 // The image of a board as programs read it from a file, and the arguments that say which part of it is meant.
+#![tactic(auto)]
+
 pub mod arguments;
 pub mod bytes;
 mod numerals;

@@ -1,4 +1,5 @@
 // Lists the records of capture.cap, or says why and where it is no capture.
+#![tactic(auto)]
 
 use capture::block::BLOCK;
 use capture::{Feed, Refusal};

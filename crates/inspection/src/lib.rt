@@ -1,4 +1,6 @@
 // What a listing of a capture shows: the line of each record, the totals, and where a refusal was found.
+#![tactic(auto)]
+
 pub mod fields;
 pub mod line;
 pub mod place;

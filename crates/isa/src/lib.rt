@@ -1,4 +1,6 @@
 // The instruction set of the K1801VM1: what an instruction word says, and the word for an instruction.
+#![tactic(auto)]
+
 pub mod decoding;
 pub mod encoding;
 pub mod further;

@@ -1,4 +1,6 @@
 // Laws of the instruction set: each word has one reading, and 8,529 words are reserved.
+#![tactic(auto)]
+
 ghost use Rattle.std.specs.Prelude.{◌≡◌};
 ghost use Rattle.isa_laws.specs.OneReading.{WordsHaveOneReading, reserved_word, how_many};
 

@@ -1,4 +1,5 @@
 // Tests of the instruction set on words worked out by hand, and on all words.
+#![tactic(auto)]
 
 #[cfg(test)]
 mod tests {

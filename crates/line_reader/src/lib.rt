@@ -1,4 +1,6 @@
 // Reading a line of a listing back into the words that it shows.
+#![tactic(auto)]
+
 pub mod back;
 mod candidates;
 mod characters;

@@ -1,4 +1,6 @@
 // Listings: an instruction as a line of text, and a line of text as an instruction.
+#![tactic(auto)]
+
 mod forms;
 mod instructions;
 pub mod lister;

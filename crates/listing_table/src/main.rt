@@ -1,4 +1,6 @@
 // Lists each row of a table, compares the listing with the text that the row expects, and reads that text back.
+#![tactic(auto)]
+
 use anyhow::anyhow;
 use line_reader::read_back;
 use listing::list;

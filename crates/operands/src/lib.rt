@@ -1,4 +1,6 @@
 // The processor's state, and how its operands are found, read and written.
+#![tactic(auto)]
+
 mod operand;
 mod state;
 

@@ -1,4 +1,6 @@
 // One step of the K1801VM1 over any board and any cabinet side.
+#![tactic(auto)]
+
 mod answer;
 mod bench;
 mod enter;

@@ -1,4 +1,6 @@
 // Small programs on the processor, with what the rules make of them.
+#![tactic(auto)]
+
 #[cfg(test)]
 mod faults;
 #[cfg(test)]

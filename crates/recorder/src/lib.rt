@@ -1,4 +1,6 @@
 // Writing captures: a recorder packs the records of exchanges into the blocks of a lent buffer.
+#![tactic(auto)]
+
 pub mod encoding;
 pub mod noting;
 pub mod opening;
