@@ -3,4 +3,4 @@ use Rattle.isa.proofs.decoding.decode.Goals as goal
 
 pub returns : goal.returns
 unfolding reading
-returns c = c.by-groups.ensures
+returns c = c.by_groups.ensures

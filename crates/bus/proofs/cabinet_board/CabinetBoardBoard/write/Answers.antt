@@ -6,4 +6,4 @@ use Rattle.bus.proofs.cabinet_board.CabinetBoardBoard.write.Goals as goal
 
 pub returns-then-at-lt-ROM : goal.returns-then-at-lt-ROM
 returns-then-at-lt-ROM c =
-    record { meant = word_put 16384 (λ k. cond (ltb k 32704) (held fixed c.args.self.now.rom.now (k - 16384)) silent) c.args.self.now.ram.now _ _ c.args.at c.args.word (omega arith) c.put-word.ensures; bytes = search rules }
+    record { meant = word_put 16384 (λ k. cond (ltb k 32704) (held fixed c.args.self.now.rom.now (k - 16384)) silent) c.args.self.now.ram.now _ _ c.args.at c.args.word (omega arith) c.put_word.ensures; bytes = search rules }

@@ -6,6 +6,6 @@ use Rattle.bus.proofs.flat.FlatBoardBoard.write_byte.Goals as goal
 pub returns-then-at-lt-PAGE : goal.returns-then-at-lt-PAGE
 returns-then-at-lt-PAGE c =
     record {
-      meant = byte_put 32704 (λ k. silent) c.args.self.now.bytes.now _ _ c.args.at c.args.byte (omega arith) c.put-byte.ensures.bytes c.put-byte.ensures.halves;
+      meant = byte_put 32704 (λ k. silent) c.args.self.now.bytes.now _ _ c.args.at c.args.byte (omega arith) c.put_byte.ensures.bytes c.put_byte.ensures.halves;
       bytes = search rules;
     }
