@@ -1,6 +1,6 @@
 // What an operation leaves.
 ghost use Rattle.std.specs.Prelude.{◌≡◌};
-ghost use Rattle.arithmetic.specs.Outcomes.{flagged, result, logical, flags_only};
+ghost use Rattle.arithmetic.specs.Outcomes.{flagged, result as resulting, logical, flags_only};
 
 use crate::flags::Flags;
 use crate::width;
@@ -15,7 +15,7 @@ pub struct Outcome {
 
 // N and Z as they follow from a result, with these V and C.
 pub(crate) fn flags_after(size: Size, value: u16, v: bool, c: bool) -> Flags
-    ensures* { λ r. ⌜ r ≡ flagged size value v c ⌝ }
+    ensures { result ≡ flagged size value v c }
 {
     Flags {
         n: width::is_negative(size, value),
@@ -28,7 +28,7 @@ pub(crate) fn flags_after(size: Size, value: u16, v: bool, c: bool) -> Flags
 impl Outcome {
     // A result with its flags.
     pub(crate) fn with_result(size: Size, value: u16, v: bool, c: bool) -> Outcome
-        ensures* { λ r. ⌜ r ≡ result size value v c ⌝ }
+        ensures { result ≡ resulting size value v c }
     {
         Outcome {
             value: Some(value),
@@ -38,14 +38,14 @@ impl Outcome {
 
     // A result of an operation on single bits: no overflow, the carry kept.
     pub(crate) fn logical(size: Size, value: u16, c: bool) -> Outcome
-        ensures* { λ r. ⌜ r ≡ logical size value c ⌝ }
+        ensures { result ≡ logical size value c }
     {
         Outcome::with_result(size, value, false, c)
     }
 
     // The flags of a result that is not kept.
     pub(crate) fn flags_only(size: Size, value: u16, v: bool, c: bool) -> Outcome
-        ensures* { λ r. ⌜ r ≡ flags_only size value v c ⌝ }
+        ensures { result ≡ flags_only size value v c }
     {
         Outcome {
             value: None,

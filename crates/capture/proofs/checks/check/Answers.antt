@@ -7,17 +7,17 @@ use Rattle.capture.specs.Checking.{block_alone, whole_blocks, read_from, verdict
 use Rattle.capture.proofs.Walks.{verdict_more, seq}
 use Rattle.capture.proofs.checks.check.Goals as goal
 
-pub returns-in-err-check-whole-block : goal.returns-in-err-check-whole-block
-returns-in-err-check-whole-block c =
-    let p = err_from_is_err_and c.from-residual.result c.from-residual.ensures.1 in
+pub returns-in_err-check_whole_block : goal.returns-in_err-check_whole_block
+returns-in_err-check_whole_block c =
+    let p = err_from_is_err_and c.from_residual.result c.from_residual.ensures.1 in
     rw (p.1, p.2)
     (let xs = c.args.bytes.now in
     let b = c.loop-b.b in
     let k = length xs / 512 in
     let w : 512 ≡ (512 * b + 512) - 512 * b = omega arith in
-    let g : Err c.in-err-check-whole-block.field-0.0 ≡ block_alone b (take 512 (drop (512 * b) xs)) = c.in-err-check-whole-block.ensures ∙ ap (λ (j : ℕ). block_alone b (take j (drop (512 * b) xs))) (sym w) in
+    let g : Err c.in_err-check_whole_block.field-0.0 ≡ block_alone b (take 512 (drop (512 * b) xs)) = c.in_err-check_whole_block.ensures ∙ ap (λ (j : ℕ). block_alone b (take j (drop (512 * b) xs))) (sym w) in
     ap (λ (r : Result Unit Refusal). seq r (verdict (read_from (b + 1) (k - (b + 1)) (drop (512 * (b + 1)) xs)))) g
-    ∙ (sym (verdict_more xs k b (omega arith)) ∙ (c.loop-b.invariant ∙ ap verdict (sym (cond-true (whole_blocks (length xs)) _ (Err Blocks) (sym c.whole-blocks.ensures ∙ c.if-not-whole-blocks.false))))))
+    ∙ (sym (verdict_more xs k b (omega arith)) ∙ (c.loop-b.invariant ∙ ap verdict (sym (cond-true (whole_blocks (length xs)) _ (Err Blocks) (sym c.whole_blocks.ensures ∙ c.if-not-whole_blocks.false))))))
 
 pub loop-b-preserved : goal.loop-b-preserved
 loop-b-preserved c =
@@ -25,5 +25,5 @@ loop-b-preserved c =
     let b = c.loop-b.b in
     let k = length xs / 512 in
     let w : 512 ≡ (512 * b + 512) - 512 * b = omega arith in
-    let g : Ok tt ≡ block_alone b (take 512 (drop (512 * b) xs)) = c.in-ok-check-whole-block.ensures ∙ ap (λ (j : ℕ). block_alone b (take j (drop (512 * b) xs))) (sym w) in
+    let g : Ok tt ≡ block_alone b (take 512 (drop (512 * b) xs)) = c.in_ok-check_whole_block.ensures ∙ ap (λ (j : ℕ). block_alone b (take j (drop (512 * b) xs))) (sym w) in
     ap (λ (r : Result Unit Refusal). seq r (verdict (read_from (b + 1) (k - (b + 1)) (drop (512 * (b + 1)) xs)))) g ∙ (sym (verdict_more xs k b (omega arith)) ∙ c.loop-b.invariant)

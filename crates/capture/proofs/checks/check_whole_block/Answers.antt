@@ -20,11 +20,11 @@ returns c =
     let xs = c.args.block.now in
     let u = c.word-used.result in
     let h : Ok tt ≡ head_answer b (word_at xs 0) (word_at xs 2) (block_sum xs) =
-    c.in-ok-check-head.ensures ∙ head_same b xs c.word.result u c.checksum.result c.word.ensures c.word-used.ensures c.checksum.ensures
+    c.in_ok-check_head.ensures ∙ head_same b xs c.word.result u c.checksum.result c.word.ensures c.word-used.ensures c.checksum.ensures
     in
     let part : take (u - 0) (take (length xs - 4) (drop 4 xs)) ≡ used_bytes xs =
     ap (λ (ys : List ℕ). take (u - 0) ys) (take_rest xs 4) ∙ ap (λ (k : ℕ). take k (drop 4 xs)) (sub-zero u ∙ c.word-used.ensures)
     in
-    c.check-records.ensures
+    c.check_records.ensures
     ∙ (ap (λ (ys : List ℕ). verdict (read_then 0 ys (Ok []))) part
     ∙ (ap (λ (r : Result Unit Refusal). seq r (verdict (read_then 0 (used_bytes xs) (Ok [])))) h ∙ sym (head_then b xs)))

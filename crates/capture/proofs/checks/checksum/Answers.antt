@@ -18,7 +18,7 @@ step xs i sum part T h p inv =
 
 pub loop-i-preserved : goal.loop-i-preserved
 loop-i-preserved c =
-    (search rules, step c.args.block.now c.loop-i.i c.loop-i.sum c.part-at-sum.result _ (omega arith) c.part-at-sum.ensures c.loop-i.invariant.1)
+    (search rules, step c.args.block.now c.loop-i.i c.loop-i.sum c.part_at-sum.result _ (omega arith) c.part_at-sum.ensures c.loop-i.invariant.1)
 
 pub returns : goal.returns
 returns c =

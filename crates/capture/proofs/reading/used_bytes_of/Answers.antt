@@ -4,8 +4,8 @@ use Rattle.capture.specs.Words.{word_at}
 use Rattle.capture.specs.Checking.{used_bytes}
 use Rattle.capture.proofs.reading.used_bytes_of.Goals as goal
 
-pub used-bytes-requires : goal.used-bytes-requires
-used-bytes-requires c =
+pub used_bytes-requires : goal.used_bytes-requires
+used_bytes-requires c =
     let xs = c.args.bytes.now in
     let o = 512 * c.args.b in
     let k : (o + 512) - o ≡ 512 = omega arith in
@@ -19,4 +19,4 @@ returns c =
     let xs = c.args.bytes.now in
     let o = 512 * c.args.b in
     let k : (o + 512) - o ≡ 512 = omega arith in
-    c.used-bytes.ensures ∙ ap (λ (j : ℕ). used_bytes (take j (drop o xs))) k
+    c.used_bytes.ensures ∙ ap (λ (j : ℕ). used_bytes (take j (drop o xs))) k

@@ -8,13 +8,13 @@ next_decides : (base i : ℕ) (text : List ℕ) (answer whole : Bool) → i < le
 next_decides base i text answer whole inside same left =
     ap (λ (d : Bool). d && digits base (drop (i + 1) text)) same ∙ (sym (at_drop_more (digits base) text i 0 inside) ∙ left)
 
-pub returns-then-not-is-digit : goal.returns-then-not-is-digit
-returns-then-not-is-digit c =
-    next_decides _ _ c.args.text.now _ _ c.loop-byte-test.true c.if-not-is-digit.ensures c.loop-byte.invariant
+pub returns-then-not-is_digit : goal.returns-then-not-is_digit
+returns-then-not-is_digit c =
+    next_decides _ _ c.args.text.now _ _ c.loop-byte-test.true c.if-not-is_digit.ensures c.loop-byte.invariant
 
 pub loop-byte-preserved : goal.loop-byte-preserved
 loop-byte-preserved c =
-    next_decides _ _ c.args.text.now _ _ c.loop-byte-test.true c.if-not-is-digit.ensures c.loop-byte.invariant
+    next_decides _ _ c.args.text.now _ _ c.loop-byte-test.true c.if-not-is_digit.ensures c.loop-byte.invariant
 
 pub returns : goal.returns
 returns c =

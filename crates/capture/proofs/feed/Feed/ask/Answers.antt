@@ -7,16 +7,16 @@ use Rattle.capture.proofs.Asking.{misfit, fit, handed_out}
 use Rattle.capture.proofs.Feeding.{left_lawful}
 use Rattle.capture.proofs.feed.Feed.ask.Goals as goal
 
-pub returns-then-not-same-request : goal.returns-then-not-same-request
-returns-then-not-same-request c =
+pub returns-then-not-same_request : goal.returns-then-not-same_request
+returns-then-not-same_request c =
     let f = c.args.self.now in
-    let m = misfit c.args.request (left f) (seen c.in-Some.record) c.exchange-exchange.result c.in-Some.ensures c.exchange-exchange.ensures (sym c.same-request.ensures ∙ c.if-not-same-request.true) in
+    let m = misfit c.args.request (left f) (seen c.in-Some.record) c.exchange-exchange.result c.in-Some.ensures c.exchange-exchange.ensures (sym c.same_request.ensures ∙ c.if-not-same_request.true) in
     record { answered = m.answered; lawful = refl; moved = m.moved; held = refl; used = sym (add-zero f.used) }
 
 pub returns : goal.returns
 returns c =
     let f = c.args.self.now in
-    let m = fit c.args.request (left f) (seen c.in-Some.record) c.exchange-exchange.result c.in-Some.ensures c.exchange-exchange.ensures (left_lawful f.bytes.now f.block f.from) (sym c.same-request.ensures ∙ c.if-not-same-request.false) in
+    let m = fit c.args.request (left f) (seen c.in-Some.record) c.exchange-exchange.result c.in-Some.ensures c.exchange-exchange.ensures (left_lawful f.bytes.now f.block f.from) (sym c.same_request.ensures ∙ c.if-not-same_request.false) in
     record {
       answered = m.answered;
       lawful = m.lawful;

@@ -9,4 +9,4 @@ returns c =
     let line = c.args.self in
     let within : line.length ≤ length line.bytes = search rules in
     let n : length (shown line) ≡ line.length = length-take-le line.length line.bytes within in
-    record { written = simp (c.copy-from-slice.ensures.after, sub-zero, n); size = sym n }
+    record { written = simp (c.copy_from_slice.ensures.after, sub-zero, n); size = sym n }
