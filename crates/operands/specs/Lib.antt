@@ -1,2 +1,4 @@
 pub mod State
 pub mod Operands
+pub mod Sameness
+pub mod SamenessLaws

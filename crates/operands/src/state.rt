@@ -1,9 +1,8 @@
 // The processor's state: registers, status word, and the marks that pass from step to step.
 ghost use Rattle.std.specs.Prelude.{◌≡◌, Decides};
 ghost use Rattle.operands.specs.State.{register, with_register};
-ghost use Rattle.std.specs.Cmp.Rules.{comparing};
-ghost use Rattle.std.proofs.Common.{rules};
-ghost use Rattle.std.specs.Cmp as Keys;
+ghost use Rattle.operands.specs.SamenessLaws.{same_state_equivalence, same_state_chain};
+ghost use Rattle.operands.specs.Sameness.{same_state};
 
 use bus::LineBits;
 use isa::Register;
@@ -65,23 +64,31 @@ fn same_lines(a: LineBits, b: LineBits) -> bool
     a.aclo == b.aclo && a.irq2 == b.irq2 && a.irq3 == b.irq3 && a.virq == b.virq
 }
 
+fn same_marks(a: &Processor, b: &Processor) -> bool
+    ensures {
+        Decides result ((a.now.requests ≡ b.now.requests) × (a.now.trace ≡ b.now.trace) × (a.now.waiting ≡ b.now.waiting) × (a.now.life ≡ b.now.life))
+    }
+{
+    a.requests == b.requests && a.trace == b.trace && a.waiting == b.waiting && a.life == b.life
+}
+
 // States are equal in all their parts.
 impl PartialEq for Processor {
-    ghost equals = { λ p q r. Decides r (p ≡ q) };
+    ghost eq = { same_state };
 
-    ghost laws = { Keys.partial_equiv_from_equiv (Prim.search (comparing, rules)) };
+    ghost laws = { same_state_chain };
 
-    fn eq(&self, other: &Processor) -> bool {
+    fn eq(&self, other: &Processor) -> bool
+        ensures answer { result ≡ same_state self.now other.now }
+        ensures decides { Decides result (self.now ≡ other.now) }
+    {
         same_registers(&self.registers, &other.registers)
             && self.psw == other.psw
             && same_lines(self.lines, other.lines)
-            && self.requests == other.requests
-            && self.trace == other.trace
-            && self.waiting == other.waiting
-            && self.life == other.life
+            && same_marks(self, other)
     }
 }
 
 impl Eq for Processor {
-    ghost laws = { Prim.search (comparing, rules) };
+    ghost laws = { same_state_equivalence };
 }

@@ -2,13 +2,13 @@ use Rattle.std.proofs.Common.{rules}
 use Rattle.operands.specs.Operands.{locates}
 use Rattle.operands.proofs.operand.locate.Goals as goal
 
-pub returns-in-err-at : goal.returns-in-err-at
+pub returns-in_err-at-in-Index : goal.returns-in_err-at-in-Index
 unfolding locates
-returns-in-err-at g c = search rules
+returns-in_err-at-in-Index g c = search rules
 
-pub returns-in-default : goal.returns-in-default
+pub returns-in_default : goal.returns-in_default
 unfolding locates
-returns-in-default g c = search rules
+returns-in_default g c = search rules
 
 pub returns-in-Direct : goal.returns-in-Direct
 unfolding locates
