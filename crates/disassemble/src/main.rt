@@ -7,6 +7,7 @@ mod rows;
 use faults::Fault;
 use image::{Image, image_of, next_address, parse_address, parse_count};
 use rows::row_at;
+use std::process::ExitCode;
 use std::{env, fs};
 
 // Where an image's program begins, unless an argument says otherwise.
@@ -62,10 +63,12 @@ fn run(rt: &HostRuntime) -> Result<(), Fault> {
     }
 }
 
-fn main(rt: HostRuntime) -> Result<(), Fault> {
-    let result = run(&rt);
-    if let Err(fault) = &result {
-        let _ = eprintln!(rt; "disassemble: {fault}");
+fn main(rt: HostRuntime) -> ExitCode {
+    match run(&rt) {
+        Ok(()) => ExitCode::SUCCESS,
+        Err(fault) => {
+            let _ = eprintln!(rt; "disassemble: {fault}");
+            ExitCode::FAILURE
+        }
     }
-    result
 }

@@ -5,6 +5,7 @@ use capture::block::BLOCK;
 use capture::{Feed, Refusal};
 use inspection::{Totals, record_line, refused_block, refused_byte};
 use std::alloc::Global;
+use std::process::ExitCode;
 use std::{fs, io};
 
 const NAME: &str = "capture.cap";
@@ -70,12 +71,15 @@ fn inspect(rt: &HostRuntime, bytes: &[u8]) -> io::Result<()> {
     }
 }
 
-fn main(rt: HostRuntime) -> io::Result<()> {
+fn main(rt: HostRuntime) -> io::Result<ExitCode> {
     match fs::read(&rt, NAME) {
-        Ok(bytes) => inspect(&rt, bytes.as_slice()),
+        Ok(bytes) => {
+            inspect(&rt, bytes.as_slice())?;
+            Ok(ExitCode::SUCCESS)
+        }
         Err(error) => {
             eprintln!(rt; "inspect: cannot read {NAME}: {error}")?;
-            Err(error)
+            Ok(ExitCode::FAILURE)
         }
     }
 }

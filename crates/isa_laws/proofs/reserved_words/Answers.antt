@@ -27,8 +27,8 @@ loop-word-init c = (sym (none reserved_word), omega arith)
 
 pub loop-word-preserved : goal.loop-word-preserved
 loop-word-preserved c =
-    counts reserved_word c.loop-word.word c.loop-word.count c.from-count.result c.is_reserved_lem.result
-    c.loop-word.invariant.0 c.loop-word.invariant.1 c.is_reserved_lem.ensures c.from-count.ensures
+    counts reserved_word c.loop-word.word c.loop-word.count c.from-count.result c.is_reserved.result
+    c.loop-word.invariant.0 c.loop-word.invariant.1 c.is_reserved.ensures c.from-count.ensures
 
 pub returns : goal.returns
 returns c =

@@ -2,13 +2,13 @@ use Rattle.std.proofs.Common.{rules}
 use Rattle.execution.specs.Changes.{alters}
 use Rattle.execution.proofs.change.alter.Goals as goal
 
-pub returns-in-err-old : goal.returns-in-err-old
+pub returns-in_err-old : goal.returns-in_err-old
 unfolding alters
-returns-in-err-old g c = search rules
+returns-in_err-old g c = search rules
 
-pub returns-in-default : goal.returns-in-default
+pub returns-in_default : goal.returns-in_default
 unfolding alters
-returns-in-default g c = search rules
+returns-in_default g c = search rules
 
 pub returns : goal.returns
 unfolding alters

@@ -6,6 +6,6 @@ pub returns-in-Byte-InRegister : goal.returns-in-Byte-InRegister
 unfolding fills
 returns-in-Byte-InRegister g c = search rules
 
-pub returns-in-default : goal.returns-in-default
+pub returns-in_default : goal.returns-in_default
 unfolding fills
-returns-in-default g c = search rules
+returns-in_default g c = search rules

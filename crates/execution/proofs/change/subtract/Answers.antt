@@ -2,13 +2,13 @@ use Rattle.std.proofs.Common.{rules}
 use Rattle.execution.specs.Changes.{subtracts}
 use Rattle.execution.proofs.change.subtract.Goals as goal
 
-pub returns-in-err-value : goal.returns-in-err-value
+pub returns-in_err-value : goal.returns-in_err-value
 unfolding subtracts
-returns-in-err-value g c = search rules
+returns-in_err-value g c = search rules
 
-pub returns-in-default : goal.returns-in-default
+pub returns-in_default : goal.returns-in_default
 unfolding subtracts
-returns-in-default g c = search rules
+returns-in_default g c = search rules
 
 pub returns : goal.returns
 unfolding subtracts

@@ -2,13 +2,13 @@ use Rattle.std.proofs.Common.{rules}
 use Rattle.execution.specs.Transfers.{jumps}
 use Rattle.execution.proofs.transfer.jump.Goals as goal
 
-pub returns-in-err-at : goal.returns-in-err-at
+pub returns-in_err-at : goal.returns-in_err-at
 unfolding jumps
-returns-in-err-at g c = search rules
+returns-in_err-at g c = search rules
 
-pub returns-in-default : goal.returns-in-default
+pub returns-in_default : goal.returns-in_default
 unfolding jumps
-returns-in-default g c = search rules
+returns-in_default g c = search rules
 
 pub returns-in-InRegister : goal.returns-in-InRegister
 unfolding jumps

@@ -2,13 +2,13 @@ use Rattle.std.proofs.Common.{rules}
 use Rattle.execution.specs.Transfers.{links}
 use Rattle.execution.proofs.transfer.link.Goals as goal
 
-pub returns-in-err-push : goal.returns-in-err-push
+pub returns-in_err-push : goal.returns-in_err-push
 unfolding links
-returns-in-err-push g c = search rules
+returns-in_err-push g c = search rules
 
-pub returns-in-default : goal.returns-in-default
+pub returns-in_default : goal.returns-in_default
 unfolding links
-returns-in-default g c = search rules
+returns-in_default g c = search rules
 
 pub returns : goal.returns
 unfolding links

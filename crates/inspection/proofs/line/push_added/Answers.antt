@@ -9,7 +9,7 @@ returns c =
     let xs = c.args.added.now in
     let e = string_bytes c.args.line.now in
     let a : List ℕ = codes ", added" ++ bytes_text xs in
-    c.in-ok-push-bytes.ensures
-    ∙ (ap (λ (ys : List ℕ). ys ++ bytes_text xs) c.in-ok-push-str.ensures.bytes
+    c.in_ok-push_bytes.ensures
+    ∙ (ap (λ (ys : List ℕ). ys ++ bytes_text xs) c.in_ok-push_str.ensures.bytes
     ∙ (append_assoc e (codes ", added") (bytes_text xs)
-    ∙ ap (λ (ys : List ℕ). e ++ ys) (sym (cond-false (eqb (length xs) 0) [] a (sym c.is-empty.ensures ∙ c.if-is-empty.false)))))
+    ∙ ap (λ (ys : List ℕ). e ++ ys) (sym (cond-false (eqb (length xs) 0) [] a (sym c.is_empty.ensures ∙ c.if-is_empty.false)))))

@@ -8,7 +8,7 @@ loop-b-preserved c =
     let xs = c.args.bytes.now in
     let i = c.loop-b.b-index in
     byte_more (string_bytes c.args.line.now) xs (string_bytes c.loop-b.line) (string_bytes c.push.new.self) _ i c.loop-b-test.true c.loop-b.invariant
-    c.in-ok-push.ensures.bytes (c.in-ok-push.ensures.ascii (c.requires i c.loop-b-test.true))
+    c.in_ok-push.ensures.bytes (c.in_ok-push.ensures.ascii (c.requires i c.loop-b-test.true))
 
 pub returns : goal.returns
 returns c =

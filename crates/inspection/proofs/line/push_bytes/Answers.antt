@@ -8,8 +8,8 @@ pub loop-b-preserved : goal.loop-b-preserved
 loop-b-preserved c =
     let xs = c.args.bytes.now in
     let i = c.loop-b.b-index in
-    digits_more (string_bytes c.args.line.now) xs (string_bytes c.loop-b.line) (string_bytes c.push-ascii.new.line) _ i c.loop-b-test.true c.loop-b.invariant
-    c.in-ok-push-ascii.ensures c.hex.ensures
+    digits_more (string_bytes c.args.line.now) xs (string_bytes c.loop-b.line) (string_bytes c.push_ascii.new.line) _ i c.loop-b-test.true c.loop-b.invariant
+    c.in_ok-push_ascii.ensures c.hex.ensures
 
 pub returns : goal.returns
 returns c =

@@ -16,21 +16,21 @@ asked xs b t r e f =
 pub loop-b-init : goal.loop-b-init
 loop-b-init c = ap (λ (j : ℕ). block_from 0 j c.args.bytes.now) (sub-zero (min (length c.args.bytes.now / 512) 4096))
 
-pub returns-then-is-err : goal.returns-then-is-err
-returns-then-is-err c =
+pub returns-then-is_err : goal.returns-then-is_err
+returns-then-is_err c =
     let xs = c.args.bytes.now in
     let b = c.loop-b.b in
     let k = min (length xs / 512) 4096 in
-    let t = asked xs b c.is-err.result c.check-block.result c.is-err.ensures.value c.check-block.ensures in
-    record { value = stop _ b _ _ (t ∙ c.if-is-err.true) (sym (block_at xs k b (omega arith)) ∙ c.loop-b.invariant); bound = omega arith }
+    let t = asked xs b c.is_err.result c.check_block.result c.is_err.ensures.value c.check_block.ensures in
+    record { value = stop _ b _ _ (t ∙ c.if-is_err.true) (sym (block_at xs k b (omega arith)) ∙ c.loop-b.invariant); bound = omega arith }
 
 pub loop-b-preserved : goal.loop-b-preserved
 loop-b-preserved c =
     let xs = c.args.bytes.now in
     let b = c.loop-b.b in
     let k = min (length xs / 512) 4096 in
-    let t = asked xs b c.is-err.result c.check-block.result c.is-err.ensures.value c.check-block.ensures in
-    go_on _ b _ _ (t ∙ c.if-is-err.false) (sym (block_at xs k b (omega arith)) ∙ c.loop-b.invariant)
+    let t = asked xs b c.is_err.result c.check_block.result c.is_err.ensures.value c.check_block.ensures in
+    go_on _ b _ _ (t ∙ c.if-is_err.false) (sym (block_at xs k b (omega arith)) ∙ c.loop-b.invariant)
 
 pub returns : goal.returns
 returns c =

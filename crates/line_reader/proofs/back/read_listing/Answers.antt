@@ -9,4 +9,4 @@ returns c =
     let g : Fits w16 (get_or words 1 0) = search rules in
     let h : Fits w16 (get_or words 2 0) = search rules in
     let fits : Words words = record { three = search rules; word_fits = f.fits; first_fits = g.fits; second_fits = h.fits } in
-    c.read-back.ensures.finds words fits c.requires
+    c.read_back.ensures.finds words fits c.requires

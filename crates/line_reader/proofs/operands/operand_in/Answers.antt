@@ -6,9 +6,9 @@ pub returns-in-43 : goal.returns-in-43
 unfolding operand_in
 returns-in-43 c = search rules
 
-pub returns-in-default-look : goal.returns-in-default-look
+pub returns-in_default-look : goal.returns-in_default-look
 unfolding operand_in
-returns-in-default-look c = search rules
+returns-in_default-look c = search rules
 
 pub returns-in-35 : goal.returns-in-35
 unfolding operand_in
@@ -22,9 +22,9 @@ pub returns-in-64 : goal.returns-in-64
 unfolding operand_in
 returns-in-64 c = search rules
 
-pub returns-in-default : goal.returns-in-default
+pub returns-in_default : goal.returns-in_default
 unfolding operand_in
-returns-in-default c = search rules
+returns-in_default c = search rules
 
 pub returns-in-0-to-7 : goal.returns-in-0-to-7
 unfolding operand_in

@@ -2,13 +2,13 @@ use Rattle.std.proofs.Common.{rules}
 use Rattle.processor.specs.Entering.{loads_pc}
 use Rattle.processor.proofs.enter.load_pc.Goals as goal
 
-pub returns-in-err-pc : goal.returns-in-err-pc
+pub returns-in_err-pc : goal.returns-in_err-pc
 unfolding loads_pc
-returns-in-err-pc g c = search rules
+returns-in_err-pc g c = search rules
 
-pub returns-in-default : goal.returns-in-default
+pub returns-in_default : goal.returns-in_default
 unfolding loads_pc
-returns-in-default g c = search rules
+returns-in_default g c = search rules
 
 pub returns : goal.returns
 unfolding loads_pc

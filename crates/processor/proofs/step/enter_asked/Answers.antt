@@ -2,9 +2,9 @@ use Rattle.std.proofs.Common.{rules}
 use Rattle.processor.specs.Stepping.{enters_asked}
 use Rattle.processor.proofs.step.enter_asked.Goals as goal
 
-pub returns-in-err-word : goal.returns-in-err-word
+pub returns-in_err-word : goal.returns-in_err-word
 unfolding enters_asked
-returns-in-err-word g c = search rules
+returns-in_err-word g c = search rules
 
 pub returns-in-Answered : goal.returns-in-Answered
 unfolding enters_asked

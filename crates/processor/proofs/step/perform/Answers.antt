@@ -2,9 +2,9 @@ use Rattle.std.proofs.Common.{rules}
 use Rattle.processor.specs.Stepping.{performs}
 use Rattle.processor.proofs.step.perform.Goals as goal
 
-pub returns-in-err-ending : goal.returns-in-err-ending
+pub returns-in_err-ending : goal.returns-in_err-ending
 unfolding performs
-returns-in-err-ending g c = search rules
+returns-in_err-ending g c = search rules
 
 pub returns : goal.returns
 unfolding performs

@@ -17,7 +17,7 @@ pub returns : goal.returns
 unfolding sealed
 returns c =
     let b : List ℕ = c.args.block.now in
-    let r : List ℕ = c.to-le-bytes.result in
-    let e : get_or r 0 0 ∷ get_or r 1 0 ∷ [] ≡ word_bytes c.balance.result = ap (λ (v : List ℕ). get_or v 0 0 ∷ get_or v 1 0 ∷ []) c.to-le-bytes.ensures in
+    let r : List ℕ = c.to_le_bytes.result in
+    let e : get_or r 0 0 ∷ get_or r 1 0 ∷ [] ≡ word_bytes c.balance.result = ap (λ (v : List ℕ). get_or v 0 0 ∷ get_or v 1 0 ∷ []) c.to_le_bytes.ensures in
     let w : c.balance.result ≡ (65536 - block_sum (take 510 b)) % 65536 = c.balance.ensures ∙ ap (λ (n : ℕ). (65536 - n) % 65536) c.checksum-sum.ensures in
     last_two b (get_or r 0 0) (get_or r 1 0) c.requires ∙ ap (λ (t : List ℕ). take 510 b ++ t) (e ∙ ap word_bytes w)

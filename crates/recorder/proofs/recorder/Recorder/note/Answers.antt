@@ -20,10 +20,10 @@ grown c =
     let l : exchange_is_lawful e ≡ true = sym c.lawful.ensures ∙ c.if-not-lawful.false in
     let p : writable (record_of e) ≡ true = writable_since (record_of e) (record-kept e.request e.reply l).lawful w in
     let z : (s.header + 4) - 0 ≡ s.header + 4 = sub-zero (s.header + 4) in
-    let r : take ((s.header + 4) - 0) c.record-bytes-bytes.result ≡ stamped (added_by s.header s.number) (record_of e) =
-    ap (λ (j : ℕ). take j c.record-bytes-bytes.result) z ∙ c.record-bytes-bytes.ensures
+    let r : take ((s.header + 4) - 0) c.record_bytes-bytes.result ≡ stamped (added_by s.header s.number) (record_of e) =
+    ap (λ (j : ℕ). take j c.record_bytes-bytes.result) z ∙ c.record_bytes-bytes.ensures
     in
-    more s.header s.number s.blocks s.sheets.count s.sheets.buffer.now (record_of e) (take ((s.header + 4) - 0) c.record-bytes-bytes.result) c.note.new.self.buffer.now
+    more s.header s.number s.blocks s.sheets.count s.sheets.buffer.now (record_of e) (take ((s.header + 4) - 0) c.record_bytes-bytes.result) c.note.new.self.buffer.now
     s.allowed s.most s.many s.sound s.stands p r c.if-self-n.false c.note.ensures.bytes
 
 pub note-requires : goal.note-requires
@@ -32,8 +32,8 @@ note-requires c =
     let z : (s.header + 4) - 0 ≡ s.header + 4 = sub-zero (s.header + 4) in
     record {
       size =
-          ap (λ (j : ℕ). length (take j c.record-bytes-bytes.result)) z
-          ∙ (ap length c.record-bytes-bytes.ensures
+          ap (λ (j : ℕ). length (take j c.record_bytes-bytes.result)) z
+          ∙ (ap length c.record_bytes-bytes.ensures
           ∙ (length-record (written 0 (entry (added_by s.header s.number) (record_of c.args.exchange))) ∙ sym (added_size s.header s.number s.allowed)));
       many = header_many s.header s.allowed;
       fit = mul-div-le 506 (s.header + 4);
@@ -42,11 +42,19 @@ note-requires c =
       room = search rules;
     }
 
-pub invariant-of-self : goal.invariant-of-self
-invariant-of-self c =
+pub invariant_of-self : goal.invariant_of-self
+invariant_of-self c =
     let s = c.args.self.now in
     let m = grown c in
-    (s.allowed, (s.most, (m.whole, (omega (arith, c.note.ensures.count, c.if-self-n.false), (m.many ∙ sym c.note.ensures.count, (m.sound, (m.stands, tt)))))))
+    record {
+      allowed = s.allowed;
+      most = s.most;
+      whole = m.whole;
+      place = omega (arith, c.note.ensures.count, c.if-self-n.false);
+      many = m.many ∙ sym c.note.ensures.count;
+      sound = m.sound;
+      stands = m.stands;
+    }
 
 pub returns : goal.returns
 returns c =

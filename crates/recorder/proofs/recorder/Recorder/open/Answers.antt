@@ -4,16 +4,24 @@ use Rattle.recorder.specs.Recording.{header_allowed}
 use Rattle.recorder.proofs.Packing.{New, new}
 use Rattle.recorder.proofs.recorder.Recorder.open.Goals as goal
 
-pub invariant-of-result-2 : goal.invariant-of-result-2
-invariant-of-result-2 c =
+pub invariant_of-result-2 : goal.invariant_of-result-2
+invariant_of-result-2 c =
     let l : header_allowed c.args.header ≡ true = search rules in
     let k : length c.args.buffer.now / 512 ≤ 4096 = search rules in
-    let m = new c.args.header c.args.number (length c.args.buffer.now / 512) c.fill-empty.new.buffer l k c.fill-empty.ensures in
-    (l, (k, (search rules, (search rules, (ap length m.made, (ap all_writable m.made, (m.stands, tt)))))))
+    let m = new c.args.header c.args.number (length c.args.buffer.now / 512) c.fill_empty.new.buffer l k c.fill_empty.ensures in
+    record {
+      allowed = l;
+      most = k;
+      whole = search rules;
+      place = search rules;
+      many = ap length m.made;
+      sound = ap all_writable m.made;
+      stands = m.stands;
+    }
 
 pub returns : goal.returns
 returns c =
     let l : header_allowed c.args.header ≡ true = search rules in
     let k : length c.args.buffer.now / 512 ≤ 4096 = search rules in
-    let m = new c.args.header c.args.number (length c.args.buffer.now / 512) c.fill-empty.new.buffer l k c.fill-empty.ensures in
+    let m = new c.args.header c.args.number (length c.args.buffer.now / 512) c.fill_empty.new.buffer l k c.fill_empty.ensures in
     record { blocks = search rules; header = search rules; number = refl; made = m.made; bytes = m.bytes }

@@ -3,11 +3,11 @@ use Rattle.std.proofs.lemmas.List.{length-take-le}
 use Rattle.recorder.proofs.Packing.{place_fits, note_is}
 use Rattle.recorder.proofs.recorder.Sheets.note.Goals as goal
 
-pub overflow-mul-at : goal.overflow-mul-at
-overflow-mul-at c = omega (arith, place_fits c.args.size c.args.n c.args.self.now.count c.requires.many c.requires.fit)
+pub overflow_mul-at : goal.overflow_mul-at
+overflow_mul-at c = omega (arith, place_fits c.args.size c.args.n c.args.self.now.count c.requires.many c.requires.fit)
 
-pub overflow-add-at : goal.overflow-add-at
-overflow-add-at c = omega (arith, place_fits c.args.size c.args.n c.args.self.now.count c.requires.many c.requires.fit)
+pub overflow_add-at : goal.overflow_add-at
+overflow_add-at c = omega (arith, place_fits c.args.size c.args.n c.args.self.now.count c.requires.many c.requires.fit)
 
 pub append-requires : goal.append-requires
 append-requires c =
