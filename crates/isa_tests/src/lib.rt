@@ -7,21 +7,20 @@ mod tests {
         Condition, Control, DoubleOperation, FlagChange, FlagMask, Instruction, Operand, Register,
         SingleOperation, Size, decode, encode,
     };
-    use std::test::Fail;
 
     macro_rules! reads {
-        ($word:expr, $instruction:pat) => {
-            check(match decode($word) {
+        ($rt:ident; $word:expr, $instruction:pat) => {
+            assert!($rt; match decode($word) {
                 $instruction => true,
                 _ => false,
-            })?
+            })
         };
     }
 
     #[test]
-    fn operations_with_operands_are_read() -> Result<(), Fail> {
+    fn operations_with_operands_are_read(rt: HostRuntime) {
         // MOV #n, R3
-        reads!(
+        reads!(rt;
             0o012703,
             Instruction::Double(
                 Size::Word,
@@ -31,7 +30,7 @@ mod tests {
             )
         );
         // BICB @-(R1), 4(R2)
-        reads!(
+        reads!(rt;
             0o145162,
             Instruction::Double(
                 Size::Byte,
@@ -41,7 +40,7 @@ mod tests {
             )
         );
         // ADD (R4), -(SP)
-        reads!(
+        reads!(rt;
             0o061446,
             Instruction::Add(
                 Operand::Deferred(Register::R4),
@@ -49,7 +48,7 @@ mod tests {
             )
         );
         // SUB R2, @4(R5)
-        reads!(
+        reads!(rt;
             0o160275,
             Instruction::Subtract(
                 Operand::Direct(Register::R2),
@@ -57,7 +56,7 @@ mod tests {
             )
         );
         // TSTB @#n
-        reads!(
+        reads!(rt;
             0o105737,
             Instruction::Single(
                 Size::Byte,
@@ -66,7 +65,7 @@ mod tests {
             )
         );
         // ASL R0
-        reads!(
+        reads!(rt;
             0o006300,
             Instruction::Single(
                 Size::Word,
@@ -75,47 +74,46 @@ mod tests {
             )
         );
         // XOR R1, (R2)+
-        reads!(
+        reads!(rt;
             0o074122,
             Instruction::ExclusiveOr(Register::R1, Operand::Increment(Register::R2))
         );
         // SXT R2, MTPS #n, MFPS R0
-        reads!(
+        reads!(rt;
             0o006702,
             Instruction::SignExtend(Operand::Direct(Register::R2))
         );
-        reads!(
+        reads!(rt;
             0o106427,
             Instruction::ToStatus(Operand::Increment(Register::Pc))
         );
-        reads!(
+        reads!(rt;
             0o106700,
             Instruction::FromStatus(Operand::Direct(Register::R0))
         );
         // SWAB R1, JMP (R3), JSR PC, n(PC)
-        reads!(
+        reads!(rt;
             0o000301,
             Instruction::SwapBytes(Operand::Direct(Register::R1))
         );
-        reads!(0o000113, Instruction::Jump(Operand::Deferred(Register::R3)));
-        reads!(
+        reads!(rt; 0o000113, Instruction::Jump(Operand::Deferred(Register::R3)));
+        reads!(rt;
             0o004767,
             Instruction::Call(Register::Pc, Operand::Index(Register::Pc))
         );
-        Ok(())
     }
 
     #[test]
-    fn words_without_operands_are_read() -> Result<(), Fail> {
-        reads!(0o000000, Instruction::Control(Control::Halt));
-        reads!(0o000006, Instruction::Control(Control::Rtt));
-        reads!(0o000207, Instruction::Return(Register::Pc));
+    fn words_without_operands_are_read(rt: HostRuntime) {
+        reads!(rt; 0o000000, Instruction::Control(Control::Halt));
+        reads!(rt; 0o000006, Instruction::Control(Control::Rtt));
+        reads!(rt; 0o000207, Instruction::Return(Register::Pc));
         // BEQ past two words, BR to itself, BCS 128 words back
-        reads!(0o001402, Instruction::Branch(Condition::Beq, 2));
-        reads!(0o000777, Instruction::Branch(Condition::Br, -1));
-        reads!(0o103600, Instruction::Branch(Condition::Bcs, -128));
+        reads!(rt; 0o001402, Instruction::Branch(Condition::Beq, 2));
+        reads!(rt; 0o000777, Instruction::Branch(Condition::Br, -1));
+        reads!(rt; 0o103600, Instruction::Branch(Condition::Bcs, -128));
         // CCC, SEZ, NOP
-        reads!(
+        reads!(rt;
             0o000257,
             Instruction::Flags(
                 FlagChange::Clear,
@@ -127,7 +125,7 @@ mod tests {
                 }
             )
         );
-        reads!(
+        reads!(rt;
             0o000264,
             Instruction::Flags(
                 FlagChange::Set,
@@ -139,7 +137,7 @@ mod tests {
                 }
             )
         );
-        reads!(
+        reads!(rt;
             0o000240,
             Instruction::Flags(
                 FlagChange::Clear,
@@ -151,17 +149,16 @@ mod tests {
                 }
             )
         );
-        reads!(0o006477, Instruction::Mark(63));
-        reads!(0o077302, Instruction::Loop(Register::R3, 2));
-        reads!(0o104377, Instruction::Emulate(255));
-        reads!(0o104400, Instruction::Trap(0));
+        reads!(rt; 0o006477, Instruction::Mark(63));
+        reads!(rt; 0o077302, Instruction::Loop(Register::R3, 2));
+        reads!(rt; 0o104377, Instruction::Emulate(255));
+        reads!(rt; 0o104400, Instruction::Trap(0));
         // both ends of gaps in the table
-        reads!(0o000007, Instruction::Reserved(0o000007));
-        reads!(0o000210, Instruction::Reserved(0o000210));
-        reads!(0o006677, Instruction::Reserved(0o006677));
-        reads!(0o075000, Instruction::Reserved(0o075000));
-        reads!(0o170000, Instruction::Reserved(0o170000));
-        Ok(())
+        reads!(rt; 0o000007, Instruction::Reserved(0o000007));
+        reads!(rt; 0o000210, Instruction::Reserved(0o000210));
+        reads!(rt; 0o006677, Instruction::Reserved(0o006677));
+        reads!(rt; 0o075000, Instruction::Reserved(0o075000));
+        reads!(rt; 0o170000, Instruction::Reserved(0o170000));
     }
 
     #[test]
