@@ -1,12 +1,12 @@
 -- A course that was played comes with the exchanges that the side made, and fed with exactly these it ends the same.
-use Rattle.std.proofs.Common.{◌≡◌, ℕ, ◌+◌, Bool, true, false, cond, ◌&&◌, List, [], ◌∷◌, ◌++◌, length, Ok, Err, Result, sym, refl, ap, ◌∙◌, subst, arith, length-append}
+use Rattle.std.proofs.Common.{◌≡◌, ℕ, ◌+◌, Bool, true, false, cond, List, [], ◌∷◌, ◌++◌, length, Ok, Err, Result, sym, refl, ap, ◌∙◌, subst, arith, length-append}
 use Rattle.std.proofs.lemmas.Bool.{cond-true, and_from}
 use Rattle.bus.specs.declared.exchange.Request.{Request}
 use Rattle.bus.specs.declared.exchange.Reply.{Reply}
 use Rattle.bus.specs.declared.exchange.Gone.{Gone}
 use Rattle.bus.specs.declared.exchange.Exchange.{Exchange}
 use Rattle.bus.specs.Memory.{Memory}
-use Rattle.bus.specs.Exchanges.{lawful_request, lawful_reply, all_lawful}
+use Rattle.bus.specs.Exchanges.{all_lawful}
 use Rattle.bus.specs.Courses.{Act, done, asks, looks, puts, puts_byte, bind, Meaning, Becoming, Plays, Goes, Played}
 use Rattle.bus.specs.Feeds.{Out, gone, answers, onto, feed, lost?, Made, Fed, same}
 use Rattle.bus.proofs.Requests.{no_bool, same_refl, lawful_on}

@@ -1,10 +1,9 @@
 -- Laws of requests and of lists of exchanges.
-use Rattle.std.proofs.Common.{◌≡◌, ℕ, Bool, true, false, cond, ◌&&◌, eqb, List, [], ◌∷◌, ◌++◌, sym, refl, ap, ◌∙◌, arith}
-use Rattle.std.proofs.lemmas.Bool.{eq-eqb, eqb-true, and_parts, and_from}
+use Rattle.std.proofs.Common.{◌≡◌, ℕ, true, false, eqb, List, [], ◌∷◌, ◌++◌, refl, arith}
+use Rattle.std.proofs.lemmas.Bool.{eq-eqb, and_parts, and_from}
 use Rattle.bus.specs.declared.exchange.Request.{Request}
-use Rattle.bus.specs.declared.exchange.Request.TheVariants.{Read, Write, WriteByte, Lines, Vector, Init}
 use Rattle.bus.specs.declared.exchange.Exchange.{Exchange}
-use Rattle.bus.specs.Exchanges.{lawful_request, lawful_reply, lawful_exchange, all_lawful}
+use Rattle.bus.specs.Exchanges.{lawful_exchange, all_lawful}
 use Rattle.bus.specs.Feeds.{kind, address, sent, same}
 
 pub no_bool : {A : Type 0} → true ≡ false → A

@@ -1,7 +1,5 @@
 -- A course played over a tap is played over the side below it, and the notes are its exchanges.
-use Rattle.std.proofs.Common.{◌≡◌, ℕ, ◌≤◌, Bool, true, false, List, [], ◌∷◌, length, Ok, Err, Result, sym, refl, ap, ◌∙◌, subst}
-use Rattle.bus.specs.declared.exchange.Request.{Request}
-use Rattle.bus.specs.declared.exchange.Reply.{Reply}
+use Rattle.std.proofs.Common.{◌≡◌, ◌≤◌, Bool, true, false, List, [], ◌∷◌, length, Ok, Err, Result, sym, ap, ◌∙◌, subst}
 use Rattle.bus.specs.declared.exchange.Gone.{Gone}
 use Rattle.bus.specs.declared.exchange.Exchange.{Exchange}
 use Rattle.bus.specs.Memory.{Memory}
@@ -9,7 +7,7 @@ use Rattle.bus.specs.Exchanges.{all_lawful}
 use Rattle.bus.specs.Courses.{Act, done, asks, looks, puts, puts_byte, bind, Meaning, Becoming, Plays, Goes, Played}
 use Rattle.bus.specs.Feeds.{lost?, Made, Fed, AtMost}
 use Rattle.bus.specs.Taps.{noting, all_noted}
-use Rattle.bus.proofs.Feeding.{Has, played_has}
+use Rattle.bus.proofs.Feeding.{played_has}
 use Rattle.bus.proofs.Bounds.{fed_within}
 use Rattle.bus.proofs.Noting.{all_noted_whole}
 

@@ -1,5 +1,5 @@
 -- What a panel answers and becomes.
-use Rattle.std.specs.Prelude.{ℕ, ◌+◌, ◌*◌, ◌/◌, ◌%◌, Bool, cond, List, set, Ok, Result, slice_index, slice_set}
+use Rattle.std.specs.Prelude.{ℕ, ◌+◌, ◌/◌, ◌%◌, cond, Ok, Result, slice_index, slice_set}
 use Rattle.bus.specs.declared.exchange.Request.{Request}
 use Rattle.bus.specs.declared.exchange.Request.TheVariants.{Read, Write, WriteByte, Lines, Vector, Init}
 use Rattle.bus.specs.declared.exchange.Reply.{Reply}

@@ -1,6 +1,6 @@
 -- What users of boards can rely on.
-use Rattle.std.specs.Prelude.{◌≡◌, ℕ, ◌+◌, ◌-◌, ◌*◌, ◌/◌, ◌<◌, ◌≤◌, List, length, drop, Some, None, Option, ◌≢◌, slice_index}
-use Rattle.bus.specs.Memory.{Place, silent, fixed, opened, Memory, read, write, write_byte, with_half}
+use Rattle.std.specs.Prelude.{◌≡◌, ℕ, ◌+◌, ◌*◌, ◌/◌, ◌<◌, ◌≤◌, List, length, drop, Some, None, ◌≢◌, slice_index}
+use Rattle.bus.specs.Memory.{silent, fixed, opened, Memory, read, write, write_byte, with_half}
 use Rattle.bus.specs.Boards.{word_at, flat, cabinet_board, with_word, with_byte}
 use Rattle.bus.specs.Feeds.{AtMost}
 use Rattle.bus.specs.Accesses.{loads, stores, stores_byte}

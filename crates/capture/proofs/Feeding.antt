@@ -1,11 +1,11 @@
 -- What a passed check tells of a reader that stands in the capture.
-use Rattle.std.proofs.Common.{◌≡◌, ℕ, zero, suc, ◌+◌, ◌-◌, ◌*◌, ◌/◌, ◌%◌, ◌<◌, ◌≤◌, Bool, true, false, cond, eqb, ltb, leb, ◌⊎◌, List, [], ◌∷◌, map, length, get_or, take, drop, is_ok, Ok, Err, Result, sym, refl, ap, ◌∙◌, subst, inl, inr, arith}
+use Rattle.std.proofs.Common.{◌≡◌, ℕ, zero, suc, ◌+◌, ◌-◌, ◌*◌, ◌/◌, ◌%◌, ◌<◌, ◌≤◌, Bool, true, false, cond, eqb, leb, List, [], ◌∷◌, map, length, get_or, take, drop, is_ok, Ok, Err, Result, sym, refl, ap, ◌∙◌, inl, inr, arith}
 use Rattle.std.proofs.lemmas.List.{drop_all, take_rest, drop-drop, length-take, length-drop}
 use Rattle.std.proofs.lemmas.Bool.{false≢true, cond-true, eqb-true, leb-true, cases_lt}
 use Rattle.std.specs.List.{AllByRecursion as All}
 use Rattle.capture.specs.declared.refusal.Refusal.{Refusal}
 use Rattle.capture.specs.declared.refusal.Refusal.TheVariants.{Blocks, Number, Used, Checksum}
-use Rattle.capture.specs.Words.{word_at, both}
+use Rattle.capture.specs.Words.{word_at}
 use Rattle.capture.specs.Checksum.{block_sum}
 use Rattle.capture.specs.Records.{Entry, numbers, unnumbers, first_plain, first_entry}
 use Rattle.capture.specs.Lawful.{lawful, fits_within}

@@ -1,5 +1,5 @@
 -- Exchanges and records stand one for one; a request that matches another is that one.
-use Rattle.std.proofs.Common.{◌≡◌, ℕ, ◌<◌, ◌≤◌, Bool, true, false, cond, eqb, leb, ◌⊎◌, sym, refl, ap, ◌∙◌, subst, inl, inr, arith}
+use Rattle.std.proofs.Common.{◌≡◌, ℕ, ◌≤◌, Bool, true, false, cond, eqb, leb, sym, refl, ap, ◌∙◌, subst, inl, inr, arith}
 use Rattle.std.proofs.lemmas.Bool.{false≢true, eqb-true, eqb-false, leb-true, cases_Bool}
 use Rattle.std.proofs.lemmas.Bool.Decides.{nat_tests}
 use Rattle.bus.specs.declared.exchange.Request.{Request}
@@ -9,7 +9,7 @@ use Rattle.bus.specs.declared.exchange.Reply.TheVariants.{Answered, TimedOut}
 use Rattle.capture.specs.Words.{both}
 use Rattle.capture.specs.Records.{Plain, plain}
 use Rattle.capture.specs.Lawful.{lawful}
-use Rattle.capture.specs.Exchanges.{exchange, kind_of, address_of, sent_by, answered_word, record_of, exchange_of, no_word, reply_is_lawful, exchange_is_lawful, same_request, KeptByRecord, KeptByExchange, ExchangesAreRecords}
+use Rattle.capture.specs.Exchanges.{exchange, kind_of, address_of, sent_by, reply_is_lawful, same_request, KeptByRecord, KeptByExchange, ExchangesAreRecords}
 
 pub both_parts : (x y : Bool) → both x y ≡ true → (x ≡ true) × (y ≡ true)
 both_parts true y h = (refl, h)

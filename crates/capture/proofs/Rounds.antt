@@ -1,5 +1,5 @@
 -- What is laid out is read back.
-use Rattle.std.proofs.Common.{◌≡◌, ℕ, zero, suc, ◌+◌, ◌-◌, ◌*◌, ◌/◌, ◌%◌, ◌<◌, ◌≤◌, Bool, true, false, cond, ltb, leb, List, [], ◌∷◌, ◌++◌, map, length, get_or, take, drop, replicate, Ok, Err, Result, sym, refl, ap, ◌∙◌, subst, mul-le-mul_left, mul-zero, mul-suc, arith, length-append, length-drop}
+use Rattle.std.proofs.Common.{◌≡◌, ℕ, zero, suc, ◌+◌, ◌-◌, ◌*◌, ◌/◌, ◌%◌, ◌<◌, ◌≤◌, true, cond, ltb, leb, List, [], ◌∷◌, ◌++◌, map, length, get_or, take, drop, Ok, Err, Result, sym, refl, ap, ◌∙◌, subst, mul-le-mul_left, mul-zero, mul-suc, arith, length-append, length-drop}
 use native.Mathlib.Nat.{min-le_left, mul-div-le}
 use lib.ListN.{length-replicate}
 use Rattle.std.proofs.lemmas.List.{drop_at, take_at, get_or_at, append_assoc, length_push, length-take, map-append, take-map, drop-map, take-append-drop, nil_from_length, length-map}
@@ -9,11 +9,10 @@ use Rattle.std.proofs.lemmas.Bool.Decides.{nat_tests}
 use Rattle.std.specs.List.{AllByRecursion as All}
 use Rattle.capture.specs.declared.refusal.Refusal.{Refusal}
 use Rattle.capture.specs.declared.refusal.Refusal.TheVariants.{Length, Fields}
-use Rattle.capture.specs.Words.{word_bytes, word_at, both}
-use Rattle.capture.specs.Checksum.{block_sum}
+use Rattle.capture.specs.Words.{word_bytes, word_at}
 use Rattle.capture.specs.Records.{Plain, Entry, Written, plain, entry, entry_of, plain_of, written, record_bytes, first_plain, first_entry}
 use Rattle.capture.specs.Lawful.{lawful, writable, all_writable, fits_within}
-use Rattle.capture.specs.Checking.{Answer, one_read, and_then, read_then, used_bytes, block_then, read_from, read_capture, entries}
+use Rattle.capture.specs.Checking.{Answer, one_read, and_then, read_then, block_then, read_from, entries}
 use Rattle.capture.specs.Blocks.{sealed, unsealed, zeros_after, block_bytes}
 use Rattle.capture.specs.Layout.{joined, Sheet, body_of, blocks_of, entries_of, packed, per_block, stamped, laid_out}
 use Rattle.capture.specs.Laws.{Fits, Fills, SheetsReadBack, OnlyRecordsCount, LayoutReadsBack}

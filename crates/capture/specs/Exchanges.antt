@@ -6,7 +6,7 @@ use Rattle.bus.specs.declared.exchange.Reply.{Reply}
 use Rattle.bus.specs.declared.exchange.Reply.TheVariants.{Answered, TimedOut}
 use Rattle.bus.specs.declared.exchange.Gone.{Gone}
 use Rattle.bus.specs.declared.exchange.Exchange.{Exchange}
-use Rattle.capture.specs.Words.{both, either}
+use Rattle.capture.specs.Words.{both}
 use Rattle.capture.specs.Records.{Plain, plain}
 use Rattle.capture.specs.Lawful.{is_on_page, even, lawful}
 

@@ -1,7 +1,7 @@
 -- What holds of every capture.
 use Rattle.std.specs.Prelude.{◌≡◌, ℕ, ◌+◌, ◌*◌, ◌<◌, ◌≤◌, true, List, map, length, Ok}
 use Rattle.std.specs.List.{AllByRecursion as All}
-use Rattle.capture.specs.Records.{Plain, Entry, Written, entry, entry_of, plain_of}
+use Rattle.capture.specs.Records.{Plain, Entry, Written, entry, plain_of}
 use Rattle.capture.specs.Lawful.{writable, all_writable, lawful}
 use Rattle.capture.specs.Checksum.{block_sum}
 use Rattle.capture.specs.Checking.{read_capture, entries}

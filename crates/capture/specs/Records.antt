@@ -1,5 +1,5 @@
 -- Records: what they are compared by, and their bytes.
-use Rattle.std.specs.Prelude.{ℕ, ◌+◌, ◌-◌, List, [], ◌∷◌, ◌++◌, length, take, drop, slice_index}
+use Rattle.std.specs.Prelude.{ℕ, ◌+◌, ◌-◌, List, ◌∷◌, ◌++◌, length, take, drop, slice_index}
 use Rattle.capture.specs.Words.{word_bytes, word_at}
 
 -- A record as records are compared: kind 1 to 6, mark 1 answered or 0 timed out, address and word.

@@ -1,5 +1,5 @@
 -- Worked blocks.
-use Rattle.std.specs.Prelude.{◌≡◌, ℕ, List, [], ◌∷◌, ◌++◌, drop, Ok, Err}
+use Rattle.std.specs.Prelude.{◌≡◌, [], ◌∷◌, ◌++◌, drop, Ok, Err}
 use Rattle.capture.specs.declared.refusal.Refusal.TheVariants.{Fields}
 use Rattle.capture.specs.Records.{plain, entry}
 use Rattle.capture.specs.Blocks.{block_bytes}

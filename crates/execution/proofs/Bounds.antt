@@ -20,7 +20,7 @@ use Rattle.operands.specs.declared.operand.Location.TheVariants.{InRegister, InM
 use Rattle.operands.proofs.Bounds.{at_leaving, at_locates, at_takes, at_gives}
 use Rattle.execution.specs.declared.change.Change.{Change}
 use Rattle.execution.specs.declared.ending.Ending.{Ending}
-use Rattle.execution.specs.Changes.{size, outcome, writes, concludes, alters, changes, fills, replaces, overwrites, reads, combines, doubles, adds, subtracts, loads_status}
+use Rattle.execution.specs.Changes.{size, writes, concludes, alters, changes, fills, replaces, overwrites, reads, combines, doubles, adds, subtracts, loads_status}
 use Rattle.execution.specs.Stack.{pushes, pops}
 use Rattle.execution.specs.Transfers.{jumps, links, calls_at, calls, pops_into, pops_status, restores}
 use Rattle.execution.specs.Executes.{resets, controls, executes}

@@ -1,5 +1,5 @@
 -- Courses on registers alone stay inside the processor.
-use Rattle.std.proofs.Common.{◌≡◌, ℕ, Bool, true, false, ◌&&◌, List, Some, None, Option, sym, refl, ap, ◌∙◌, subst}
+use Rattle.std.proofs.Common.{◌≡◌, ℕ, true, Some, None, Option, sym, refl, ap, ◌∙◌, subst}
 use Rattle.std.proofs.lemmas.Bool.{and_parts}
 use Rattle.isa.specs.declared.operand.Register.{Register}
 use Rattle.isa.specs.declared.operand.Operand.{Operand}

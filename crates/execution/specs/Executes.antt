@@ -1,6 +1,6 @@
 -- What each instruction does, group by group of the instruction table.
-use Rattle.std.specs.Prelude.{ℕ, Bool, true, false}
-use Rattle.isa.specs.declared.instruction.Size.TheVariants.{Word, Byte}
+use Rattle.std.specs.Prelude.{true, false}
+use Rattle.isa.specs.declared.instruction.Size.TheVariants.{Byte}
 use Rattle.isa.specs.declared.instruction.Control.{Control}
 use Rattle.isa.specs.declared.instruction.Control.TheVariants.{Halt, Wait, Rti, Bpt, Iot, Reset, Rtt}
 use Rattle.isa.specs.declared.instruction.FlagChange.{FlagChange}

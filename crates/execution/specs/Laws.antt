@@ -1,5 +1,5 @@
 -- Instructions that ask nothing of board or cabinet side.
-use Rattle.std.specs.Prelude.{◌≡◌, ℕ, Bool, true, false, ◌&&◌, List, Ok, Result}
+use Rattle.std.specs.Prelude.{◌≡◌, ℕ, Bool, true, false, ◌&&◌, List, Ok}
 use Rattle.isa.specs.declared.operand.Operand.{Operand}
 use Rattle.isa.specs.declared.operand.Operand.TheVariants.{Direct, Deferred, Increment, IncrementDeferred, Decrement, DecrementDeferred, Index, IndexDeferred}
 use Rattle.isa.specs.declared.instruction.Instruction.{Instruction}
@@ -9,7 +9,6 @@ use Rattle.bus.specs.Memory.{Memory}
 use Rattle.bus.specs.Courses.{Act}
 use Rattle.bus.specs.Feeds.{feed}
 use Rattle.operands.specs.declared.state.Processor.{Processor}
-use Rattle.execution.specs.declared.ending.Ending.{Ending}
 use Rattle.execution.specs.Executes.{executes}
 
 -- Mode 0.

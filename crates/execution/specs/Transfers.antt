@@ -1,5 +1,5 @@
 -- Instructions that set PC: branches, jumps, calls and returns.
-use Rattle.std.specs.Prelude.{ℕ, ◌*◌, Bool, true, false, cond, ℤ, Some, None, Option, ◌==◌}
+use Rattle.std.specs.Prelude.{ℕ, ◌*◌, cond, ℤ, Some, None, ◌==◌}
 use Rattle.isa.specs.declared.operand.Register.{Register}
 use Rattle.isa.specs.declared.operand.Register.TheVariants.{R5, Sp, Pc}
 use Rattle.isa.specs.declared.operand.Operand.{Operand}

@@ -1,6 +1,6 @@
 -- A line as it grows.
-use Rattle.std.proofs.Common.{◌≡◌, ℕ, ◌+◌, ◌<◌, ◌≤◌, List, [], ◌∷◌, ◌++◌, length, get_or, take, sym, refl, ap, ◌∙◌}
-use Rattle.std.proofs.lemmas.List.{take_more, take_all, append_assoc, append-nil}
+use Rattle.std.proofs.Common.{◌≡◌, ℕ, ◌+◌, ◌<◌, List, [], ◌∷◌, ◌++◌, length, get_or, take, sym, ap, ◌∙◌}
+use Rattle.std.proofs.lemmas.List.{take_more, append_assoc, append-nil}
 use Rattle.inspection.specs.Texts.{hex_text, bytes_text}
 
 text_push : (xs : List ℕ) (b : ℕ) → bytes_text (xs ++ b ∷ []) ≡ bytes_text xs ++ hex_text b

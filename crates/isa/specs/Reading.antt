@@ -1,13 +1,12 @@
 -- What an instruction word says, group by group of the instruction table. R is a register digit, SS and DD are a mode
 -- digit and a register digit, NN is six bits, XXX eight bits, and * is 0 for words and 1 for bytes.
-use Rattle.std.specs.Prelude.{ℕ, zero, suc, ◌-◌, ◌/◌, ◌%◌, Bool, true, false, cond, List, [], ◌∷◌, eqb, ltb, ℤ, pos, negsuc, get_or}
+use Rattle.std.specs.Prelude.{ℕ, zero, suc, ◌-◌, ◌/◌, ◌%◌, cond, List, [], ◌∷◌, eqb, ltb, ℤ, pos, negsuc, get_or}
 use Rattle.isa.specs.declared.operand.Register.{Register}
 use Rattle.isa.specs.declared.operand.Register.TheVariants.{R0, R1, R2, R3, R4, R5, Sp, Pc}
 use Rattle.isa.specs.declared.operand.Operand.{Operand}
 use Rattle.isa.specs.declared.operand.Operand.TheVariants.{Direct, Deferred, Increment, IncrementDeferred, Decrement, DecrementDeferred, Index, IndexDeferred}
 use Rattle.isa.specs.declared.instruction.Size.{Size}
 use Rattle.isa.specs.declared.instruction.Size.TheVariants.{Word, Byte}
-use Rattle.isa.specs.declared.instruction.Control.{Control}
 use Rattle.isa.specs.declared.instruction.Control.TheVariants.{Halt, Wait, Rti, Bpt, Iot, Reset, Rtt}
 use Rattle.isa.specs.declared.instruction.SingleOperation.{SingleOperation}
 use Rattle.isa.specs.declared.instruction.SingleOperation.TheVariants.{Clr, Com, Inc, Dec, Neg, Adc, Sbc, Tst, Ror, Rol, Asr, Asl}
@@ -15,7 +14,6 @@ use Rattle.isa.specs.declared.instruction.DoubleOperation.{DoubleOperation}
 use Rattle.isa.specs.declared.instruction.DoubleOperation.TheVariants.{Mov, Cmp, Bit, Bic, Bis}
 use Rattle.isa.specs.declared.instruction.Condition.{Condition}
 use Rattle.isa.specs.declared.instruction.Condition.TheVariants.{Br, Bne, Beq, Bge, Blt, Bgt, Ble, Bpl, Bmi, Bhi, Blos, Bvc, Bvs, Bcc, Bcs}
-use Rattle.isa.specs.declared.instruction.FlagChange.{FlagChange}
 use Rattle.isa.specs.declared.instruction.FlagChange.TheVariants.{Clear, Set}
 use Rattle.isa.specs.declared.instruction.FlagMask.{FlagMask}
 use Rattle.isa.specs.declared.instruction.Instruction.{Instruction}

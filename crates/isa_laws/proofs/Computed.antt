@@ -1,5 +1,5 @@
 -- A test of every number of k bits, computed by halves.
-use Rattle.std.proofs.Common.{◌≡◌, ℕ, zero, suc, ◌+◌, ◌*◌, ◌^◌, ◌<◌, ◌≤◌, Bool, true, false, sym, refl, ap, ◌∙◌, subst, mul_assoc, add-mul, one-mul, pow-suc, zero-mul, add-one, arith}
+use Rattle.std.proofs.Common.{◌≡◌, ℕ, zero, suc, ◌+◌, ◌*◌, ◌^◌, ◌<◌, ◌≤◌, Bool, true, false, sym, refl, ◌∙◌, subst, mul_assoc, add-mul, one-mul, pow-suc, zero-mul, add-one, arith}
 use native.Mathlib.Decide.{dec_lt}
 use Rattle.isa.specs.Word.{bit}
 use Rattle.isa_laws.specs.OneReading.{how_many}

@@ -1,8 +1,8 @@
 -- Each word has one reading.
-use Rattle.std.proofs.Common.{◌≡◌, ℕ, ◌<◌, true, false, ◌⊎◌, sym, ap, ◌∙◌, inl, inr, arith}
+use Rattle.std.proofs.Common.{◌≡◌, ℕ, ◌⊎◌, sym, ap, ◌∙◌, inl, inr, arith}
 use Rattle.isa.specs.declared.instruction.Instruction.{Instruction}
 use Rattle.isa.specs.Reading.{reading}
-use Rattle.isa_laws.specs.OneReading.{listed, Has, Says, OneReading, WordsHaveOneReading}
+use Rattle.isa_laws.specs.OneReading.{listed, Has, Says, WordsHaveOneReading}
 use Rattle.isa_laws.proofs.Listed.{listed_said}
 use Rattle.isa_laws.proofs.Readings.{reads_back}
 

@@ -1,5 +1,5 @@
 -- The word of a listed instruction is read as that instruction.
-use Rattle.std.proofs.Common.{◌≡◌, ℕ, zero, suc, ◌+◌, ◌-◌, ◌*◌, ◌/◌, ◌%◌, ◌<◌, ◌≤◌, Bool, true, false, ltb, ℤ, sym, refl, ap, ◌∙◌, arith, lit<, lit≤, ltb-true}
+use Rattle.std.proofs.Common.{◌≡◌, ℕ, suc, ◌+◌, ◌-◌, ◌*◌, ◌/◌, ◌%◌, ◌<◌, ◌≤◌, true, false, ltb, ℤ, refl, ap, ◌∙◌, arith, lit<, lit≤, ltb-true}
 use native.Mathlib.Decide.{dec_lt}
 use Rattle.std.proofs.lemmas.Bool.Decides.{nat_tests}
 use Rattle.isa.specs.declared.operand.Register.{Register}
@@ -19,10 +19,10 @@ use Rattle.isa.specs.declared.instruction.FlagChange.{FlagChange}
 use Rattle.isa.specs.declared.instruction.FlagChange.TheVariants.{Clear, Set}
 use Rattle.isa.specs.declared.instruction.FlagMask.{FlagMask}
 use Rattle.isa.specs.declared.instruction.Instruction.{Instruction}
-use Rattle.isa.specs.Reading.{register, operand, offset, five, low_condition, low_branch, high_condition, high_branch, reading}
+use Rattle.isa.specs.Reading.{operand, offset, five, low_condition, low_branch, high_condition, high_branch, reading}
 use Rattle.isa.specs.Word.{number, bits, byte, mask_bits, size_bit, control_word, single_base, double_base, branch_base, flag_base, word}
 use Rattle.isa_laws.specs.OneReading.{in_byte, listed}
-use Rattle.isa_laws.proofs.Digits.{number_digit, register_at, operand_at, bits_small, Digits, digits_of, Branching, branching_of, byte_small, mask_at, mask_small}
+use Rattle.isa_laws.proofs.Digits.{number_digit, register_at, operand_at, bits_small, Digits, digits_of, branching_of, byte_small, mask_at, mask_small}
 
 control_said : (c : Control) → reading (control_word c) ≡ Instruction.Control c
 unfolding reading

@@ -1,10 +1,8 @@
 -- Numbers, targets and registers of a listing are read back.
-use Rattle.std.proofs.Common.{◌≡◌, ℕ, zero, suc, ◌+◌, ◌-◌, ◌*◌, ◌/◌, ◌%◌, ◌<◌, ◌≤◌, Bool, true, false, cond, ◌&&◌, eqb, ltb, leb, List, [], ◌∷◌, ◌++◌, get_or, drop, ℤ, pos, negsuc, sym, refl, ap, ◌∙◌, arith, ltb-true}
+use Rattle.std.proofs.Common.{◌≡◌, ℕ, ◌+◌, ◌-◌, ◌*◌, ◌/◌, ◌%◌, ◌<◌, true, List, ◌∷◌, ◌++◌, drop, ℤ, pos, negsuc, refl, arith, ltb-true}
 use Rattle.std.proofs.lemmas.Bool.Decides.{nat_tests}
 use Rattle.isa.specs.declared.operand.Register.{Register}
 use Rattle.isa.specs.declared.operand.Register.TheVariants.{R0, R1, R2, R3, R4, R5, Sp, Pc}
-use Rattle.isa.specs.Reading.{offset}
-use Rattle.isa.specs.Word.{byte}
 use Rattle.isa_laws.specs.OneReading.{in_byte}
 use Rattle.isa_laws.proofs.Digits.{offset_at}
 use Rattle.listing.specs.Names.{register_name}

@@ -1,5 +1,5 @@
 -- The front of a line of a listing: its mnemonic, its size and what stands behind them.
-use Rattle.std.proofs.Common.{◌≡◌, ℕ, List, [], ◌∷◌, ◌++◌, codes, refl, ap, ◌∙◌}
+use Rattle.std.proofs.Common.{◌≡◌, ℕ, List, ◌++◌, refl, ap, ◌∙◌}
 use Rattle.isa.specs.declared.instruction.Size.{Size}
 use Rattle.isa.specs.declared.instruction.Size.TheVariants.{Word, Byte}
 use Rattle.isa.specs.declared.instruction.Control.{Control}

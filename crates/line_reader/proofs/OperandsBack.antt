@@ -1,15 +1,14 @@
 -- An operand of a listing is read back, whatever but a plus stands behind it.
-use Rattle.std.proofs.Common.{◌≡◌, ℕ, zero, suc, ◌+◌, ◌-◌, ◌*◌, ◌/◌, ◌%◌, ◌<◌, ◌≤◌, Bool, true, false, cond, ◌&&◌, eqb, leb, List, [], ◌∷◌, ◌++◌, length, get_or, drop, sym, refl, ap, ◌∙◌, append-nil, arith, ne_eqb, le-leb}
+use Rattle.std.proofs.Common.{◌≡◌, ℕ, ◌<◌, ◌≤◌, false, cond, eqb, List, [], ◌++◌, length, get_or, drop, refl, ap, ◌∙◌, append-nil, arith, ne_eqb, le-leb}
 use Rattle.isa.specs.declared.operand.Register.{Register}
 use Rattle.isa.specs.declared.operand.Register.TheVariants.{R0, R1, R2, R3, R4, R5, Sp, Pc}
 use Rattle.isa.specs.declared.operand.Operand.{Operand}
 use Rattle.isa.specs.declared.operand.Operand.TheVariants.{Direct, Deferred, Increment, IncrementDeferred, Decrement, DecrementDeferred, Index, IndexDeferred}
 use Rattle.isa.specs.Further.{takes_word}
-use Rattle.listing.specs.Names.{register_name}
-use Rattle.listing.specs.Text.{octal, operand_text}
+use Rattle.listing.specs.Text.{operand_text}
 use Rattle.line_reader.specs.declared.parsed.Parsed.{Parsed}
 use Rattle.line_reader.specs.Fields.{number_in, register_in}
-use Rattle.line_reader.specs.Operands.{numbered, plain, behind_at, operand_in}
+use Rattle.line_reader.specs.Operands.{numbered, behind_at, operand_in}
 use Rattle.line_reader.proofs.FieldsBack.{number_back}
 
 -- what an operand of a listing is read as

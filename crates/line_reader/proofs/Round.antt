@@ -1,5 +1,5 @@
 -- The line of a listing is taken for the words that it shows.
-use Rattle.std.proofs.Common.{◌≡◌, ℕ, zero, suc, ◌+◌, ◌*◌, ◌%◌, ◌^◌, ◌<◌, Bool, true, false, cond, eqb, ltb, ◌⊎◌, List, [], ◌∷◌, ◌++◌, length, get_or, drop, ℤ, pos, negsuc, codes, sym, refl, ap, ◌∙◌, subst, inl, inr, suc-add, arith, ltb-true, eqb-true}
+use Rattle.std.proofs.Common.{◌≡◌, ℕ, ◌+◌, ◌%◌, ◌<◌, Bool, true, false, cond, eqb, ltb, List, [], ◌∷◌, ◌++◌, length, drop, ℤ, pos, negsuc, codes, sym, refl, ap, ◌∙◌, inl, inr, suc-add, arith, ltb-true, eqb-true}
 use Rattle.isa.specs.declared.operand.Register.{Register}
 use Rattle.isa.specs.declared.operand.Operand.{Operand}
 use Rattle.isa.specs.declared.instruction.Size.{Size}
@@ -21,10 +21,10 @@ use Rattle.line_reader.specs.declared.parsed.Numbered.{Numbered}
 use Rattle.line_reader.specs.declared.parsed.OneOperand.{OneOperand}
 use Rattle.line_reader.specs.declared.parsed.TwoOperands.{TwoOperands}
 use Rattle.line_reader.specs.declared.parsed.RegisterFirst.{RegisterFirst}
-use Rattle.line_reader.specs.Fields.{register_in, number_in, size_in, offset_to, count_to}
+use Rattle.line_reader.specs.Fields.{number_in, size_in, offset_to, count_to}
 use Rattle.line_reader.specs.Mnemonics.{mnemonic_in}
 use Rattle.line_reader.specs.Operands.{operand_in}
-use Rattle.line_reader.specs.Candidate.{one_instruction, two_instruction, register_instruction, words_of, numbered_words, pair_words, two_words, candidate}
+use Rattle.line_reader.specs.Candidate.{one_instruction, two_instruction, register_instruction, words_of, numbered_words, pair_words, candidate}
 use Rattle.line_reader.specs.Back.{Words, shown_words}
 use Rattle.line_reader.proofs.FieldsBack.{number_back, register_back, register_alone, behind_register, branch_back, loop-back}
 use Rattle.line_reader.proofs.OperandsBack.{parsed_of, operand-back, operand_alone}

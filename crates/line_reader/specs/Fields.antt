@@ -1,6 +1,6 @@
 -- Registers, numbers and targets in a text, whatever it is. What the reader takes for them: nothing here has to be
 -- believed, since what is read is listed again and compared.
-use Rattle.std.specs.Prelude.{ℕ, ◌+◌, ◌-◌, ◌*◌, ◌/◌, ◌%◌, Bool, true, false, cond, ◌&&◌, List, drop, ℤ, ◌==◌, nat_le, slice_index}
+use Rattle.std.specs.Prelude.{ℕ, ◌+◌, ◌-◌, ◌*◌, ◌/◌, ◌%◌, cond, ◌&&◌, List, drop, ℤ, ◌==◌, nat_le, slice_index}
 use Rattle.isa.specs.declared.operand.Register.{Register}
 use Rattle.isa.specs.declared.operand.Register.TheVariants.{R0, R1, R2, R3, R4, R5, Sp, Pc}
 use Rattle.isa.specs.declared.instruction.Size.{Size}

@@ -1,9 +1,8 @@
 -- Sameness of states decides that they are equal, and so is an equivalence: the laws of `==`.
-use Rattle.std.proofs.Common.{◌≡◌, ℕ, Bool, true, false, ◌&&◌, nat_eq, Decides, refl, sym, ap, ◌∙◌, subst}
-use Rattle.std.specs.Cmp.{IsEquivalence, IsPartialEquivalence, decided, partial_equiv_from_equiv, booleans_Decides, first_so, second_so}
-use Rattle.std.specs.Cmp.Lexicographic.{pointwise, bytes_decides}
+use Rattle.std.proofs.Common.{◌≡◌, Bool, true, false, ◌&&◌, Decides, refl, ap}
+use Rattle.std.specs.Cmp.{IsEquivalence, IsPartialEquivalence, decided, partial_equiv_from_equiv, booleans_Decides, second_so}
+use Rattle.std.specs.Cmp.Lexicographic.{bytes_decides}
 use Rattle.std.proofs.lemmas.Bool.Decides.{Decides-eqb}
-use mathlib.Core.Bool.{beq}
 use Rattle.bus.specs.declared.panel.LineBits.{LineBits}
 use Rattle.operands.specs.declared.state.Life.{Life}
 use Rattle.operands.specs.declared.state.Life.TheVariants.{Running, Halted, Dead, Ended}
@@ -59,10 +58,10 @@ same_state_Decides p q =
     (λ h i. record { registers = h.0 i; psw = h.1.0 i; lines = h.1.1.0 i; requests = h.1.1.1.0 i; trace = h.1.1.1.1.0 i; waiting = h.1.1.1.1.1.0 i; life = h.1.1.1.1.1.1 i })
     (λ e. (ap (λ (r : Processor). r.registers) e, (ap (λ (r : Processor). r.psw) e, (ap (λ (r : Processor). r.lines) e, (ap (λ (r : Processor). r.requests) e, (ap (λ (r : Processor). r.trace) e, (ap (λ (r : Processor). r.waiting) e, ap (λ (r : Processor). r.life) e)))))))
     (both _ _ (bytes_decides p.registers q.registers)
-     (both _ _ (Decides-eqb p.psw q.psw)
-      (both _ _ (lines_Decides p.lines q.lines)
-       (both _ _ (requests_Decides p.requests q.requests)
-        (both _ _ (booleans_Decides p.trace q.trace) (both _ _ (booleans_Decides p.waiting q.waiting) (life_Decides p.life q.life)))))))
+    (both _ _ (Decides-eqb p.psw q.psw)
+    (both _ _ (lines_Decides p.lines q.lines)
+    (both _ _ (requests_Decides p.requests q.requests)
+    (both _ _ (booleans_Decides p.trace q.trace) (both _ _ (booleans_Decides p.waiting q.waiting) (life_Decides p.life q.life)))))))
 
 pub same_state_equivalence : IsEquivalence same_state
 same_state_equivalence = decided same_state same_state_Decides

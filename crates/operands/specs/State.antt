@@ -1,5 +1,5 @@
 -- The parts of the processor's state, and word arithmetic on them.
-use Rattle.std.specs.Prelude.{ℕ, ◌+◌, ◌-◌, ◌%◌, Bool, set, Ok, Err, Result, slice_index, slice_set}
+use Rattle.std.specs.Prelude.{ℕ, ◌+◌, ◌-◌, ◌%◌, Bool, Ok, Err, Result, slice_index, slice_set}
 use Rattle.bus.specs.declared.exchange.Gone.{Gone}
 use Rattle.bus.specs.Courses.{Act, done, bind}
 use Rattle.isa.specs.declared.operand.Register.{Register}

@@ -65,9 +65,7 @@ fn same_lines(a: LineBits, b: LineBits) -> bool
 }
 
 fn same_marks(a: &Processor, b: &Processor) -> bool
-    ensures {
-        Decides result ((a.now.requests ≡ b.now.requests) × (a.now.trace ≡ b.now.trace) × (a.now.waiting ≡ b.now.waiting) × (a.now.life ≡ b.now.life))
-    }
+    ensures { Decides result ((a.now.requests ≡ b.now.requests) × (a.now.trace ≡ b.now.trace) × (a.now.waiting ≡ b.now.waiting) × (a.now.life ≡ b.now.life)) }
 {
     a.requests == b.requests && a.trace == b.trace && a.waiting == b.waiting && a.life == b.life
 }

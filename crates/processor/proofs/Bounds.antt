@@ -1,6 +1,5 @@
 -- A restart or a step makes at most eleven exchanges.
 use Rattle.std.proofs.Common.{◌≡◌, ℕ, ◌+◌, Bool, true, false, ltb, Some, None, Option, refl, lit≤}
-use Rattle.std.proofs.lemmas.Bool.{cond-true}
 use Rattle.isa.specs.Reading.{reading}
 use Rattle.bus.specs.declared.exchange.Request.TheVariants.{Lines, Vector, Init}
 use Rattle.bus.specs.declared.exchange.Reply.TheVariants.{Answered, TimedOut}

@@ -1,5 +1,5 @@
 -- The laws of a job.
-use Rattle.std.proofs.Common.{◌≡◌, ℕ, ◌+◌, ◌≤◌, Bool, true, false, cond, ◌&&◌, eqb, List, [], ◌∷◌, Some, None, Ok, Err, Option, Result, sym, refl, ap, ◌∙◌, subst, arith}
+use Rattle.std.proofs.Common.{◌≡◌, ℕ, ◌+◌, ◌≤◌, Bool, true, false, cond, List, [], ◌∷◌, Some, None, Ok, Err, Option, Result, sym, refl, ap, ◌∙◌, subst, arith}
 use Rattle.bus.specs.declared.exchange.Request.{Request}
 use Rattle.bus.specs.declared.exchange.Request.TheVariants.{Read, Write, WriteByte, Lines, Vector, Init}
 use Rattle.bus.specs.declared.exchange.Reply.{Reply}
@@ -15,15 +15,14 @@ use Rattle.operands.specs.declared.state.Processor.{Processor}
 use Rattle.operands.specs.State.{with_life}
 use Rattle.processor.specs.declared.answer.Answer.{Answer}
 use Rattle.processor.specs.declared.answer.Answer.TheVariants.{Idle}
-use Rattle.processor.specs.declared.bench.Job.{Job}
 use Rattle.processor.specs.declared.bench.Job.TheVariants.{Step}
 use Rattle.processor.specs.declared.sample.Accepted.{Accepted}
 use Rattle.processor.specs.declared.sample.Accepted.TheVariants.{Aclo, Irq2, Irq3, Virq}
 use Rattle.processor.specs.Entering.{enters}
 use Rattle.processor.specs.Sampling.{masks, accepted, lines_of, sampled}
 use Rattle.processor.specs.Stepping.{branch, chooses, steps}
-use Rattle.processor.specs.Jobs.{Standing, standing, courses, settled, closes, does, Performed}
-use Rattle.processor.specs.Laws.{Determined, Loss, Few, LinesFirst, AlikeButForLines, Idleness, Accepts, Order}
+use Rattle.processor.specs.Jobs.{standing, courses, settled, closes, does}
+use Rattle.processor.specs.Laws.{Determined, Loss, Few, LinesFirst, Idleness, Accepts, Order}
 use Rattle.processor.proofs.Bounds.{at_courses}
 
 -- the same exchanges give the same end

@@ -1,5 +1,5 @@
 -- A job's course that was played over a side has its exchanges: from exactly these it comes to the same.
-use Rattle.std.proofs.Common.{◌≡◌, ℕ, Ok, Err, Result, ap}
+use Rattle.std.proofs.Common.{Ok, Err, Result, ap}
 use Rattle.bus.specs.declared.exchange.Gone.{Gone}
 use Rattle.bus.specs.Memory.{Memory}
 use Rattle.bus.specs.Courses.{Meaning, Becoming, Played}

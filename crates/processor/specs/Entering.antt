@@ -1,5 +1,5 @@
 -- Entering a vector.
-use Rattle.std.specs.Prelude.{ℕ, Bool, true, false, Some, None, Option}
+use Rattle.std.specs.Prelude.{ℕ, false, Some, None}
 use Rattle.isa.specs.declared.operand.Register.TheVariants.{Pc}
 use Rattle.bus.specs.Accesses.{loads}
 use Rattle.bus.specs.Courses.{Act, done, bind}

@@ -1,10 +1,9 @@
 -- The request lines, and the request that is accepted.
-use Rattle.std.specs.Prelude.{ℕ, ◌/◌, Bool, true, false, cond, not, ◌&&◌, ◌||◌, Some, None, Option}
+use Rattle.std.specs.Prelude.{ℕ, ◌/◌, Bool, false, cond, not, ◌&&◌, ◌||◌, Some, None, Option}
 use Rattle.bus.specs.declared.exchange.Reply.{Reply}
 use Rattle.bus.specs.declared.exchange.Reply.TheVariants.{Answered, TimedOut}
 use Rattle.bus.specs.declared.panel.LineBits.{LineBits}
 use Rattle.arithmetic.specs.Status.{odd}
-use Rattle.operands.specs.declared.state.Requests.{Requests}
 use Rattle.operands.specs.declared.state.Processor.{Processor}
 use Rattle.processor.specs.declared.sample.Accepted.{Accepted}
 use Rattle.processor.specs.declared.sample.Accepted.TheVariants.{Aclo, Irq2, Irq3, Virq}

@@ -2,7 +2,6 @@
 use Rattle.std.specs.Prelude.{ℕ, ◌*◌, ◌/◌, Bool, true, false, Some, None, Option}
 use Rattle.isa.specs.Reading.{reading}
 use Rattle.bus.specs.declared.exchange.Request.TheVariants.{Lines, Vector}
-use Rattle.bus.specs.declared.exchange.Reply.{Reply}
 use Rattle.bus.specs.declared.exchange.Reply.TheVariants.{Answered, TimedOut}
 use Rattle.bus.specs.Courses.{Act, done, asks, bind}
 use Rattle.operands.specs.declared.state.Life.{Life}

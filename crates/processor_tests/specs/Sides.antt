@@ -1,5 +1,5 @@
 -- What a stuck side answers.
-use Rattle.std.specs.Prelude.{Bool, cond, Ok, Err, Result}
+use Rattle.std.specs.Prelude.{cond, Ok, Err, Result}
 use Rattle.bus.specs.declared.exchange.Request.{Request}
 use Rattle.bus.specs.declared.exchange.Request.TheVariants.{Read, Write, WriteByte, Lines, Vector, Init}
 use Rattle.bus.specs.declared.exchange.Reply.{Reply}

@@ -1,10 +1,10 @@
 -- A block as its parts are written one after another.
-use Rattle.std.proofs.Common.{◌≡◌, ℕ, zero, suc, ◌+◌, ◌-◌, ◌/◌, ◌%◌, ◌≤◌, List, [], ◌∷◌, ◌++◌, length, take, drop, set, replicate, sym, refl, ap, ◌∙◌, append_assoc, arith, length-append, length-drop, rules}
+use Rattle.std.proofs.Common.{◌≡◌, ℕ, suc, ◌+◌, ◌-◌, ◌/◌, ◌%◌, ◌≤◌, List, [], ◌∷◌, ◌++◌, length, take, drop, replicate, sym, refl, ap, ◌∙◌, arith, length-append, length-drop}
 use Rattle.capture.specs.Words.{word_bytes}
 use Rattle.capture.specs.Blocks.{unsealed, zeros_after}
 use borrow.Rule.Slice.PartMut.{put_mid, post_of}
 use lib.ListN.{length-replicate}
-use Rattle.std.proofs.lemmas.List.{places, length-take-le, drop-drop}
+use Rattle.std.proofs.lemmas.List.{length-take-le, drop-drop}
 use Rattle.std.proofs.lemmas.Slice.{take-put_mid}
 
 -- four bytes and then a part of the rest

@@ -1,5 +1,5 @@
 -- Records packed into blocks, one after another.
-use Rattle.std.proofs.Common.{◌≡◌, ℕ, zero, suc, ◌+◌, ◌-◌, ◌*◌, ◌/◌, ◌%◌, ◌<◌, ◌≤◌, Bool, true, false, cond, eqb, ltb, ◌⊎◌, List, [], ◌∷◌, ◌++◌, map, length, take, drop, Ok, Err, sym, refl, ap, ◌∙◌, subst, inl, inr, add-zero, mod-lt, mod-eq_of_lt, mul-le-mul_left, mul-zero, zero-add, mul-one, mul-suc, mul-add, add-one, arith, lit<, length-append, length-drop}
+use Rattle.std.proofs.Common.{◌≡◌, ℕ, zero, suc, ◌+◌, ◌-◌, ◌*◌, ◌/◌, ◌%◌, ◌<◌, ◌≤◌, true, cond, eqb, ltb, List, [], ◌∷◌, ◌++◌, map, length, take, drop, Ok, Err, sym, refl, ap, ◌∙◌, subst, inl, inr, add-zero, mod-lt, mod-eq_of_lt, mul-le-mul_left, mul-zero, zero-add, mul-one, mul-suc, mul-add, add-one, arith, lit<, length-append, length-drop}
 use native.Mathlib.Nat.{mul-div-le, add-mod_right, div-eq_of_lt, add-div_right}
 use lib.Seq.{take-append-add, take-nil}
 use borrow.Rule.Slice.PartMut.{put_mid}
@@ -7,7 +7,6 @@ use Rattle.std.proofs.lemmas.List.{take_at, drop_at, append_assoc, append-nil, t
 use Rattle.std.proofs.ByRecursion.{All-drop}
 use Rattle.std.proofs.lemmas.Bool.{cases_lt, cases_Bool, eqb-true, cond-true, cond-false, lt-ltb, le-ltb}
 use Rattle.capture.specs.declared.refusal.Refusal.TheVariants.{Blocks}
-use Rattle.capture.specs.Words.{both}
 use Rattle.capture.specs.Records.{Plain, Entry, entry, plain_of, written}
 use Rattle.capture.specs.Lawful.{writable, all_writable}
 use Rattle.capture.specs.Checksum.{block_sum}

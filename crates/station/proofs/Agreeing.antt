@@ -1,5 +1,5 @@
 -- The agreement of replay and recording, over bytes.
-use Rattle.std.proofs.Common.{◌≡◌, ℕ, zero, suc, ◌+◌, ◌*◌, ◌/◌, ◌<◌, ◌≤◌, Bool, true, false, cond, eqb, leb, List, [], ◌∷◌, ◌++◌, map, length, get_or, take, Some, None, Ok, Err, Option, Result, sym, refl, ap, ◌∙◌, subst, arith, lit≤}
+use Rattle.std.proofs.Common.{◌≡◌, ℕ, zero, suc, ◌+◌, ◌*◌, ◌/◌, ◌<◌, ◌≤◌, Bool, true, false, cond, eqb, List, [], ◌∷◌, map, length, get_or, take, Some, None, Ok, Err, Option, Result, sym, refl, ap, ◌∙◌, subst, arith, lit≤}
 use Rattle.std.proofs.lemmas.Bool.{leb-true, and_parts, false≢true}
 use Rattle.std.proofs.lemmas.Bool.Decides.{nat_tests as ways}
 use Rattle.bus.specs.declared.exchange.Request.{Request}
@@ -9,21 +9,20 @@ use Rattle.bus.specs.declared.exchange.Reply.TheVariants.{Answered, TimedOut}
 use Rattle.bus.specs.declared.exchange.Gone.{Gone}
 use Rattle.bus.specs.declared.exchange.Exchange.{Exchange}
 use Rattle.bus.specs.Exchanges.{lawful_exchange, all_lawful}
-use Rattle.bus.specs.Feeds.{feed}
 use Rattle.processor.specs.declared.answer.Answer.{Answer}
 use Rattle.processor.specs.declared.bench.Job.{Job}
 use Rattle.processor.specs.declared.bench.Job.TheVariants.{Restart, Step}
-use Rattle.processor.specs.Jobs.{Standing, courses, does}
+use Rattle.processor.specs.Jobs.{Standing, does}
 use Rattle.processor.proofs.Bounds.{at_courses}
 use Rattle.capture.specs.Records.{Plain, Entry, plain_of, entry}
 use Rattle.capture.specs.Lawful.{writable, all_writable}
-use Rattle.capture.specs.Exchanges.{exchange, exchange_of, record_of, exchange_is_lawful}
+use Rattle.capture.specs.Exchanges.{exchange, exchange_of, record_of}
 use Rattle.capture.specs.Checking.{read_capture, entries}
 use Rattle.capture.specs.Words.{word_bytes}
 use Rattle.capture.specs.Layout.{per_block}
 use Rattle.capture.proofs.Matching.{written}
 use Rattle.capture.proofs.Rounds.{layout_reads_back}
-use Rattle.recorder.specs.Recording.{header_allowed, added_by, laid, places}
+use Rattle.recorder.specs.Recording.{added_by, places}
 use Rattle.recorder.proofs.Packing.{added_size}
 use Rattle.station.specs.declared.call.Refusal.{Refusal}
 use Rattle.station.specs.declared.call.Refusal.TheVariants.{NoPlace}
@@ -33,8 +32,8 @@ use Rattle.station.specs.declared.call.Call.{Call}
 use Rattle.station.specs.declared.call.Call.TheVariants.{Restart as CallRestart, Step as CallStep, Run as CallRun}
 use Rattle.station.specs.declared.call.Pace.{Pace}
 use Rattle.station.specs.declared.call.Pace.TheVariants.{On, Halted as PaceHalted, Dead as PaceDead}
-use Rattle.station.specs.Stations.{Kept, station, Took, tells, jobs, unless, runs, pace, paced, onward, room, plays, asked_restart, asked_step, asked_run}
-use Rattle.station.specs.Agreement.{Agreement, View, Recording, new_rig, new_replay, replays, replay_of, tape_of, records_of, closed_bytes}
+use Rattle.station.specs.Stations.{Kept, station, tells, jobs, unless, runs, pace, paced, onward, room, plays, asked_restart, asked_step, asked_run}
+use Rattle.station.specs.Agreement.{Agreement, View, Recording, new_rig, new_replay, replays, tape_of, records_of, closed_bytes}
 use Rattle.station.proofs.Replaying.{follows, recorded_lawful}
 use Rattle.station.proofs.Twins.{causally}
 

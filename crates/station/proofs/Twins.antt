@@ -1,27 +1,21 @@
 -- Replays of captures that begin alike show the same until the first record that differs is asked for.
-use Rattle.std.proofs.Common.{◌≡◌, ℕ, zero, suc, ◌+◌, ◌-◌, ◌<◌, ◌≤◌, Bool, true, false, cond, ◌⊎◌, List, [], ◌∷◌, ◌++◌, length, get_or, take, drop, Some, None, Ok, Err, Option, Result, sym, refl, ap, ◌∙◌, subst, inl, inr, append_assoc, append-nil, arith, take-append-drop, length-take}
-use mathlib.Core.List.{append_cancel_left}
-use lib.Seq.{take-append_seam, take-append-le}
-use Rattle.std.proofs.lemmas.Bool.{cond-true, cond-false}
+use Rattle.std.proofs.Common.{◌≡◌, ℕ, zero, suc, ◌+◌, ◌≤◌, Bool, true, false, cond, List, [], ◌∷◌, ◌++◌, length, take, drop, Some, None, Ok, Err, Option, Result, sym, refl, ap, ◌∙◌, subst, inl, inr, arith, take-append-drop, length-take}
+use lib.Seq.{take-append-le}
 use Rattle.bus.specs.declared.exchange.Request.{Request}
 use Rattle.bus.specs.declared.exchange.Reply.{Reply}
 use Rattle.bus.specs.declared.exchange.Gone.{Gone}
 use Rattle.bus.specs.declared.exchange.Exchange.{Exchange}
 use Rattle.bus.specs.Memory.{Memory, read, write, write_byte}
-use Rattle.bus.specs.Exchanges.{all_lawful, lawful_exchange}
 use Rattle.bus.specs.Courses.{Act, done, asks, looks, puts, puts_byte, bind}
-use Rattle.bus.specs.Feeds.{Out, feed, answers, onto, gone, lost?, same}
-use Rattle.operands.specs.declared.state.Life.{Life}
-use Rattle.operands.specs.declared.state.Life.TheVariants.{Running, Halted, Dead, Ended}
+use Rattle.bus.specs.Feeds.{Out, feed, answers, onto, gone, same}
 use Rattle.operands.specs.declared.state.Processor.{Processor}
 use Rattle.processor.specs.declared.answer.Answer.{Answer}
 use Rattle.processor.specs.declared.bench.Job.{Job}
 use Rattle.processor.specs.declared.bench.Job.TheVariants.{Restart, Step}
 use Rattle.processor.specs.Jobs.{Standing, standing, courses, settled, closes, does}
 use Rattle.station.specs.declared.call.Refusal.{Refusal}
-use Rattle.station.specs.declared.call.Refusal.TheVariants.{StepCount, HasEnded, NotRunning, NoPlace, SideGone}
-use Rattle.station.specs.declared.call.End.{End}
-use Rattle.station.specs.declared.call.End.TheVariants.{AllSteps, Halted as EndHalted, Dead as EndDead, NoPlace as EndNoPlace, SideGone as EndSideGone}
+use Rattle.station.specs.declared.call.Refusal.TheVariants.{SideGone}
+use Rattle.station.specs.declared.call.End.TheVariants.{AllSteps, Halted as EndHalted, Dead as EndDead, SideGone as EndSideGone}
 use Rattle.station.specs.declared.call.Run.{Run}
 use Rattle.station.specs.declared.call.Call.{Call}
 use Rattle.station.specs.declared.call.Call.TheVariants.{Restart as CallRestart, Step as CallStep, Run as CallRun}
@@ -29,8 +23,8 @@ use Rattle.station.specs.declared.call.Said.{Said}
 use Rattle.station.specs.declared.call.Said.TheVariants.{OfJob, OfRun}
 use Rattle.station.specs.declared.call.Pace.{Pace}
 use Rattle.station.specs.declared.call.Pace.TheVariants.{On, Halted as PaceHalted, Dead as PaceDead}
-use Rattle.station.specs.Stations.{Kept, station, Took, tells, jobs, unless, runs, pace, paced, onward, room, always, unread, lost_job, lost_end, lost_run, lost_said, asked_step, asked_restart, asked_run, plays, play_step, play_restart, play_run}
-use Rattle.station.specs.Agreement.{View, Recording, view_of, replays, full_job, full_end, full_run, full_said, until_full, new_rig, new_replay, AsksOn, Asks, AsksJob, AsksPaced, AsksNext, AsksRun, AsksUnless, AsksCall, AsksIn}
+use Rattle.station.specs.Stations.{tells, jobs, unless, runs, pace, paced, onward, always, asked_step, asked_restart, asked_run, plays}
+use Rattle.station.specs.Agreement.{view_of, replays, new_replay, AsksOn, Asks, AsksJob, AsksPaced, AsksNext, AsksRun, AsksUnless, AsksCall, AsksIn}
 
 -- Two outcomes that differ only in what lies from record k on
 record Twin {X : Type 0} (k : ℕ) (a b : List Exchange) (z z2 : Out X) : Type 0 where

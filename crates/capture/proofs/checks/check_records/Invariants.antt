@@ -1,4 +1,4 @@
-use Rattle.std.proofs.Common.{◌≡◌, ◌-◌, [], length, drop, Ok, Err}
+use Rattle.std.proofs.Common.{◌≡◌, ◌-◌, [], length, drop, Ok}
 use Rattle.capture.specs.Checking.{read_then, verdict}
 use Rattle.capture.proofs.checks.check_records.Given as goal
 

@@ -1,4 +1,4 @@
-use Rattle.std.proofs.Common.{◌≡◌, ◌≤◌, length, sym, ap, ◌∙◌, arith}
+use Rattle.std.proofs.Common.{◌≤◌, length, ap, arith}
 use Rattle.capture.specs.Checking.{used_bytes}
 use Rattle.capture.specs.Remaining.{block_at, remains}
 use Rattle.capture.proofs.Feeding.{turn}

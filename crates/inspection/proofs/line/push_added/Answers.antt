@@ -1,4 +1,4 @@
-use Rattle.std.proofs.Common.{◌≡◌, ℕ, eqb, List, [], ◌++◌, length, string_bytes, codes, sym, ap, ◌∙◌}
+use Rattle.std.proofs.Common.{ℕ, eqb, List, [], ◌++◌, length, string_bytes, codes, sym, ap, ◌∙◌}
 use Rattle.std.proofs.lemmas.List.{append_assoc}
 use Rattle.std.proofs.lemmas.Bool.{cond-false}
 use Rattle.inspection.specs.Texts.{bytes_text}

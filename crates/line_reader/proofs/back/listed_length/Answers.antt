@@ -1,4 +1,4 @@
-use Rattle.std.proofs.Common.{◌≡◌, ℕ, ◌≤◌, length, take, Ok, Result, arith, rules}
+use Rattle.std.proofs.Common.{◌≡◌, ℕ, length, Ok, Result, arith}
 use lib.Seq.{take-append_seam}
 use Rattle.listing.specs.Listing.{text}
 use Rattle.listing.specs.declared.lister.Listed.{Listed}

@@ -1,4 +1,4 @@
-use Rattle.std.proofs.Common.{◌≡◌, ℕ, ◌<◌, get_or, sym, ◌∙◌, w16, Fits, rules}
+use Rattle.std.proofs.Common.{◌≡◌, ◌<◌, get_or, sym, ◌∙◌, w16, Fits, rules}
 use borrow.Author.Tests.{clash}
 use Rattle.listing.specs.Listing.{text}
 use Rattle.line_reader.specs.Back.{Words}

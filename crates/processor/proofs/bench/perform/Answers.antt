@@ -1,4 +1,4 @@
-use Rattle.std.proofs.Common.{Ok, Err, sym, ap, subst, rules}
+use Rattle.std.proofs.Common.{Ok, sym, ap, subst, rules}
 use Rattle.operands.specs.declared.state.Processor.{Processor}
 use Rattle.processor.specs.Jobs.{Performed}
 use Rattle.processor.proofs.Performing.{performed}

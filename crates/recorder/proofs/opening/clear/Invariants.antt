@@ -1,4 +1,4 @@
-use Rattle.std.proofs.Common.{◌≡◌, ℕ, ◌<◌, ◌++◌, drop, replicate}
+use Rattle.std.proofs.Common.{◌≡◌, ◌++◌, drop, replicate}
 use Rattle.recorder.proofs.opening.clear.Given as goal
 
 abbrev pub invariant-loop-byte : goal.invariant-loop-byte

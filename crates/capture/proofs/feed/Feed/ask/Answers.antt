@@ -1,4 +1,4 @@
-use Rattle.std.proofs.Common.{◌≡◌, ℕ, ◌+◌, List, map, sym, refl, ap, ◌∙◌, add-zero, rules}
+use Rattle.std.proofs.Common.{ℕ, ◌+◌, List, map, sym, refl, ap, ◌∙◌, add-zero}
 use Rattle.capture.specs.Records.{Entry, plain_of}
 use Rattle.capture.specs.Exchanges.{exchange_of}
 use Rattle.capture.specs.Feeds.{left}

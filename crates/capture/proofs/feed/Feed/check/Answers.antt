@@ -1,4 +1,4 @@
-use Rattle.std.proofs.Common.{◌≡◌, map, sym, refl, ap, ◌∙◌}
+use Rattle.std.proofs.Common.{map, sym, refl, ap}
 use Rattle.capture.specs.Checking.{Answer, entries}
 use Rattle.capture.specs.Records.{numbers}
 use Rattle.capture.proofs.Feeding.{checked}

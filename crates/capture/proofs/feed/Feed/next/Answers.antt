@@ -1,4 +1,4 @@
-use Rattle.std.proofs.Common.{◌≡◌, map, drop, Some, sym, refl, ap, ◌∙◌, add-zero, arith}
+use Rattle.std.proofs.Common.{map, drop, Some, sym, refl, ap, ◌∙◌, add-zero, arith}
 use Rattle.capture.specs.Records.{numbers}
 use Rattle.capture.specs.Feeds.{held, left}
 use Rattle.capture.specs.Handed.{head_of, tail_of}

@@ -1,6 +1,6 @@
-use Rattle.std.proofs.Common.{◌≡◌, Some, sym, ap, ◌∙◌}
+use Rattle.std.proofs.Common.{Some, sym, ap, ◌∙◌}
 use Rattle.capture.specs.Handed.{head_of}
-use Rattle.capture.proofs.Feeding.{Found, found, none_left}
+use Rattle.capture.proofs.Feeding.{found, none_left}
 use Rattle.capture.proofs.feed.Feed.peek.Goals as goal
 
 pub returns-then-b-bytes : goal.returns-then-b-bytes

@@ -1,8 +1,8 @@
-use Rattle.std.proofs.Common.{◌≡◌, ℕ, ◌+◌, ◌-◌, ◌*◌, ◌/◌, ◌%◌, ◌<◌, true, length, take, sym, refl, ap, ◌∙◌, arith, rules}
+use Rattle.std.proofs.Common.{◌≡◌, ℕ, ◌+◌, ◌-◌, ◌<◌, true, length, take, sym, refl, ap, ◌∙◌, arith, rules}
 use native.Mathlib.Nat.{mul-div-le, sub-zero}
 use Rattle.capture.specs.Records.{entry, written}
 use Rattle.capture.specs.Lawful.{writable}
-use Rattle.capture.specs.Exchanges.{record_of, word_of, exchange_is_lawful}
+use Rattle.capture.specs.Exchanges.{record_of, exchange_is_lawful}
 use Rattle.capture.specs.Layout.{stamped}
 use Rattle.capture.proofs.Matching.{written as record-kept}
 use Rattle.capture.proofs.Rounds.{length-record, writable_since}

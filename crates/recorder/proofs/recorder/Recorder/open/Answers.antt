@@ -1,7 +1,7 @@
-use Rattle.std.proofs.Common.{◌≡◌, ◌/◌, ◌≤◌, true, length, refl, ap, ◌∙◌, rules}
+use Rattle.std.proofs.Common.{◌≡◌, ◌/◌, ◌≤◌, true, length, refl, ap, rules}
 use Rattle.capture.specs.Lawful.{all_writable}
 use Rattle.recorder.specs.Recording.{header_allowed}
-use Rattle.recorder.proofs.Packing.{New, new}
+use Rattle.recorder.proofs.Packing.{new}
 use Rattle.recorder.proofs.recorder.Recorder.open.Goals as goal
 
 pub invariant_of-result-2 : goal.invariant_of-result-2
