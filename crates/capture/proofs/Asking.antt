@@ -1,7 +1,7 @@
 -- What a feed answers from the records that are left.
 use Rattle.std.proofs.Common.{◌≡◌, ℕ, true, false, cond, List, [], ◌∷◌, map, is_some, Some, None, Ok, Err, Option, sym, refl, ap, ◌∙◌, subst}
 use Rattle.std.proofs.lemmas.Bool.{false≢true, cond-true, cond-false}
-use Rattle.std.specs.List.{AllByRecursion as All}
+use Rattle.std.specs.List.{AllByRecursion}
 use Rattle.capture.specs.declared.record.Record.{Record}
 use Rattle.bus.specs.declared.exchange.Request.{Request}
 use Rattle.bus.specs.declared.exchange.Exchange.{Exchange}
@@ -41,10 +41,10 @@ pub record Fit (q : Request) (L : List Entry) (x : Exchange) : Type 0 where
   pub lawful : reply_is_lawful q x.reply ≡ true
   pub moved : tape (tail_of L) ≡ leaves q (tape L)
 
-head_lawful : (L : List Entry) (e : Entry) → Some e ≡ head_of L → All (λ e. lawful e.plain ≡ true) L → lawful e.plain ≡ true
-head_lawful L e h a = (subst (All (λ e. lawful e.plain ≡ true)) (head_is L e h) a).0
+head_lawful : (L : List Entry) (e : Entry) → Some e ≡ head_of L → AllByRecursion (λ e. lawful e.plain ≡ true) L → lawful e.plain ≡ true
+head_lawful L e h a = (subst (AllByRecursion (λ e. lawful e.plain ≡ true)) (head_is L e h) a).0
 
-pub fit : (q : Request) (L : List Entry) (e : Entry) (x : Exchange) → Some e ≡ head_of L → x ≡ exchange_of e.plain → All (λ e. lawful e.plain ≡ true) L → same_request x.request q ≡ true → Fit q L x
+pub fit : (q : Request) (L : List Entry) (e : Entry) (x : Exchange) → Some e ≡ head_of L → x ≡ exchange_of e.plain → AllByRecursion (λ e. lawful e.plain ≡ true) L → same_request x.request q ≡ true → Fit q L x
 fit q L e x h ex a f =
     let l = tape_is L e x h ex in
     let r : exchange_is_lawful x ≡ true = ap exchange_is_lawful ex ∙ (read e.plain (head_lawful L e h a)).lawful in

@@ -2,7 +2,7 @@
 use Rattle.std.proofs.Common.{◌≡◌, ℕ, zero, suc, ◌+◌, ◌-◌, ◌*◌, ◌/◌, ◌%◌, ◌<◌, ◌≤◌, Bool, true, false, cond, eqb, leb, List, [], ◌∷◌, map, length, get_or, take, drop, is_ok, Ok, Err, Result, sym, refl, ap, ◌∙◌, inl, inr, arith}
 use Rattle.std.proofs.lemmas.List.{drop_all, take_rest, drop-drop, length-take, length-drop}
 use Rattle.std.proofs.lemmas.Bool.{false≢true, cond-true, eqb-true, leb-true, cases_lt}
-use Rattle.std.specs.List.{AllByRecursion as All}
+use Rattle.std.specs.List.{AllByRecursion}
 use Rattle.capture.specs.declared.refusal.Refusal.{Refusal}
 use Rattle.capture.specs.declared.refusal.Refusal.TheVariants.{Blocks, Number, Used, Checksum}
 use Rattle.capture.specs.Words.{word_at}
@@ -215,7 +215,7 @@ within xs n e rest h = omega (arith, short xs, ap length h, length-drop n (entri
 
 -- what is read is lawful
 abbrev Lawfuls : Answer → Type 0
-Lawfuls a = All (λ e. lawful e.plain ≡ true) (entries a)
+Lawfuls a = AllByRecursion (λ e. lawful e.plain ≡ true) (entries a)
 
 then_lawful : (t u : Bool) (x : Entry) (r s : Refusal) (a : Answer) → (u ≡ true → lawful x.plain ≡ true) → Lawfuls a → Lawfuls (and_then (cond t (cond u (Ok x) (Err r)) (Err s)) a)
 then_lawful true true x r s (Ok es) l h = (l refl, h)

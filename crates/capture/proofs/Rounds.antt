@@ -6,7 +6,7 @@ use Rattle.std.proofs.lemmas.List.{drop_at, take_at, get_or_at, append_assoc, le
 use Rattle.std.proofs.ByRecursion.{All-take, All-drop}
 use Rattle.std.proofs.lemmas.Bool.{cond-true, le-leb, ltb-true, lt-ltb}
 use Rattle.std.proofs.lemmas.Bool.Decides.{nat_tests}
-use Rattle.std.specs.List.{AllByRecursion as All}
+use Rattle.std.specs.List.{AllByRecursion}
 use Rattle.capture.specs.declared.refusal.Refusal.{Refusal}
 use Rattle.capture.specs.declared.refusal.Refusal.TheVariants.{Length, Fields}
 use Rattle.capture.specs.Words.{word_bytes, word_at}
@@ -86,7 +86,7 @@ one_written w rest f =
     ∙ (cond-true (lawful p) (Ok (entry (first_entry xs).added p)) (Err Fields) s.lawful
     ∙ ap (λ (t : List ℕ). Ok (entry t p)) (added_written x p rest)))
 
-read_written : (ws : List Written) (rest : List Entry) → All Fits ws → read_then 0 (joined (map record_bytes ws)) (Ok rest) ≡ Ok (map entry_of ws ++ rest)
+read_written : (ws : List Written) (rest : List Entry) → AllByRecursion Fits ws → read_then 0 (joined (map record_bytes ws)) (Ok rest) ≡ Ok (map entry_of ws ++ rest)
 read_written [] rest f = refl
 read_written (w ∷ ws) rest f =
     let x : List ℕ = w.entry.added in
@@ -128,12 +128,12 @@ block_round b body unused rest hb h =
     block_then_lem b B rest (number_of b body unused hb) (omega (arith, u)) (sealed_sum (unsealed b body unused) (length-unsealed b body unused h))
     ∙ ap (λ (ys : List ℕ). read_then 0 ys rest) (body_of_lem b body unused (word_at B 2) u)
 
-length-blocks : (b : ℕ) (ss : List Sheet) → All Fills ss → length (blocks_of b ss) ≡ 512 * length ss
+length-blocks : (b : ℕ) (ss : List Sheet) → AllByRecursion Fills ss → length (blocks_of b ss) ≡ 512 * length ss
 length-blocks b [] f = refl
 length-blocks b (s ∷ ss) f =
     omega (arith, length-append (sealed (unsealed b (body_of s) s.unused)) (blocks_of (b + 1) ss), length-sealed b (body_of s) s.unused f.0.whole, length-blocks (b + 1) ss f.1)
 
-sheets_round : (b : ℕ) (ss : List Sheet) → b + length ss ≤ 65536 → All Fills ss → read_from b (length ss) (blocks_of b ss) ≡ Ok (entries_of ss)
+sheets_round : (b : ℕ) (ss : List Sheet) → b + length ss ≤ 65536 → AllByRecursion Fills ss → read_from b (length ss) (blocks_of b ss) ≡ Ok (entries_of ss)
 sheets_round b [] hb f = refl
 sheets_round b (s ∷ ss) hb f =
     let B : List ℕ = sealed (unsealed b (body_of s) s.unused) in
@@ -187,7 +187,7 @@ sheets_hold n (suc k) ws h =
 
 -- records of one size
 abbrev pub Sized : ℕ → List (List ℕ) → Type 0
-Sized size recs = All (λ r. length r ≡ size) recs
+Sized size recs = AllByRecursion (λ r. length r ≡ size) recs
 
 pub length-joined : (size : ℕ) (recs : List (List ℕ)) → Sized size recs → length (joined recs) ≡ size * length recs
 length-joined size [] s = sym (mul-zero size)
@@ -201,7 +201,7 @@ joined_fits size n recs h s =
 pub zeros_fill : (body : List ℕ) → length body ≤ 506 → length body + length (zeros_after body) ≡ 506
 zeros_fill body h = omega (arith, length-replicate {A = ℕ} (506 - length body) 0)
 
-sheets_fill : (size n : ℕ) → size * n ≤ 506 → (k : ℕ) (ws : List Written) → All Fits ws → Sized size (map record_bytes ws) → All Fills (sheets_of n k ws)
+sheets_fill : (size n : ℕ) → size * n ≤ 506 → (k : ℕ) (ws : List Written) → AllByRecursion Fits ws → Sized size (map record_bytes ws) → AllByRecursion Fills (sheets_of n k ws)
 unfolding sheets_of
 sheets_fill size n hs zero ws f s = tt
 sheets_fill size n hs (suc k) ws f s =
@@ -224,7 +224,7 @@ entries_all : (x : List ℕ) (ps : List Plain) → map entry_of (map (plainly x)
 entries_all x [] = refl
 entries_all x (p ∷ ps) = ap (λ (es : List Entry). entry x p ∷ es) (entries_all x ps)
 
-fits_all : (x : List ℕ) (ps : List Plain) → length x ≤ 28 → all_writable ps ≡ true → All Fits (map (plainly x) ps)
+fits_all : (x : List ℕ) (ps : List Plain) → length x ≤ 28 → all_writable ps ≡ true → AllByRecursion Fits (map (plainly x) ps)
 fits_all x [] h s = tt
 fits_all x (p ∷ ps) h s =
     let b = both_parts (writable p) (all_writable ps) s in

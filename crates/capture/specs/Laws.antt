@@ -1,6 +1,6 @@
 -- What holds of every capture.
 use Rattle.std.specs.Prelude.{◌≡◌, ℕ, ◌+◌, ◌*◌, ◌<◌, ◌≤◌, true, List, map, length, Ok}
-use Rattle.std.specs.List.{AllByRecursion as All}
+use Rattle.std.specs.List.{AllByRecursion}
 use Rattle.capture.specs.Records.{Plain, Entry, Written, entry, plain_of}
 use Rattle.capture.specs.Lawful.{writable, all_writable, lawful}
 use Rattle.capture.specs.Checksum.{block_sum}
@@ -15,16 +15,16 @@ pub record Fits (w : Written) : Type 0 where
 
 -- a sheet that fills its block
 pub record Fills (s : Sheet) : Type 0 where
-  pub records : All Fits s.records
+  pub records : AllByRecursion Fits s.records
   pub whole : length (body_of s) + length s.unused ≡ 506
 
 -- Whatever stands in a capture is read: any division into blocks, any header lengths, added, spare and unused bytes.
 abbrev pub SheetsReadBack : Type 0
-SheetsReadBack = (sheets : List Sheet) → 0 < length sheets → length sheets ≤ 4096 → All Fills sheets → read_capture (blocks_of 0 sheets) ≡ Ok (entries_of sheets)
+SheetsReadBack = (sheets : List Sheet) → 0 < length sheets → length sheets ≤ 4096 → AllByRecursion Fills sheets → read_capture (blocks_of 0 sheets) ≡ Ok (entries_of sheets)
 
 -- So blocks, header length, added, spare and unused bytes change no record.
 abbrev pub OnlyRecordsCount : Type 0
-OnlyRecordsCount = (one other : List Sheet) → 0 < length one → length one ≤ 4096 → 0 < length other → length other ≤ 4096 → All Fills one → All Fills other
+OnlyRecordsCount = (one other : List Sheet) → 0 < length one → length one ≤ 4096 → 0 < length other → length other ≤ 4096 → AllByRecursion Fills one → AllByRecursion Fills other
     → map plain_of (entries_of one) ≡ map plain_of (entries_of other)
     → map plain_of (entries (read_capture (blocks_of 0 one))) ≡ map plain_of (entries (read_capture (blocks_of 0 other)))
 
@@ -35,7 +35,7 @@ LayoutReadsBack = (added : List ℕ) (k : ℕ) (ps : List Plain) → length adde
 
 -- What is read is lawful.
 abbrev pub RecordsReadAreLawful : Type 0
-RecordsReadAreLawful = (bytes : List ℕ) → All (λ e. lawful e.plain ≡ true) (entries (read_capture bytes))
+RecordsReadAreLawful = (bytes : List ℕ) → AllByRecursion (λ e. lawful e.plain ≡ true) (entries (read_capture bytes))
 
 -- Every block of a capture that passes adds up to 0.
 abbrev pub BlocksAddUp : Type 0

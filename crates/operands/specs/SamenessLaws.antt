@@ -1,5 +1,5 @@
 -- Sameness of states decides that they are equal, and so is an equivalence: the laws of `==`.
-use Rattle.std.proofs.Common.{◌≡◌, Bool, true, false, ◌&&◌, Decides, refl, ap}
+use Rattle.std.proofs.Common.{◌≡◌, ℕ, Bool, true, false, ◌&&◌, Decides, [], ◌∷◌, get_or, refl, sym, ap, ◌∙◌}
 use Rattle.std.specs.Cmp.{IsEquivalence, IsPartialEquivalence, decided, partial_equiv_from_equiv, booleans_Decides, second_so}
 use Rattle.std.specs.Cmp.Lexicographic.{bytes_decides}
 use Rattle.std.proofs.lemmas.Bool.Decides.{Decides-eqb}
@@ -30,23 +30,18 @@ requests_Decides a b =
     along (same_requests a b) (λ h i. record { aclo = h.0 i; irq2 = h.1.0 i; irq3 = h.1.1 i }) (λ e. (ap (λ (l : Requests). l.aclo) e, (ap (λ (l : Requests). l.irq2) e, ap (λ (l : Requests). l.irq3) e)))
     (both _ _ (booleans_Decides a.aclo b.aclo) (both _ _ (booleans_Decides a.irq2 b.irq2) (booleans_Decides a.irq3 b.irq3)))
 
+-- the life of a number
+abbrev life_of : ℕ → Life
+life_of n = get_or (Running ∷ Halted ∷ Dead ∷ []) n Ended
+
+life_again : (a : Life) → life_of (life_number a) ≡ a
+life_again Running = refl
+life_again Halted = refl
+life_again Dead = refl
+life_again Ended = refl
+
 life_back : (a b : Life) → life_number a ≡ life_number b → a ≡ b
-life_back Running Running e = refl
-life_back Running Halted e = cc
-life_back Running Dead e = cc
-life_back Running Ended e = cc
-life_back Halted Running e = cc
-life_back Halted Halted e = refl
-life_back Halted Dead e = cc
-life_back Halted Ended e = cc
-life_back Dead Running e = cc
-life_back Dead Halted e = cc
-life_back Dead Dead e = refl
-life_back Dead Ended e = cc
-life_back Ended Running e = cc
-life_back Ended Halted e = cc
-life_back Ended Dead e = cc
-life_back Ended Ended e = refl
+life_back a b e = sym (life_again a) ∙ (ap life_of e ∙ life_again b)
 
 life_Decides : (a b : Life) → Decides (same_life a b) (a ≡ b)
 life_Decides a b = along (same_life a b) (life_back a b) (ap life_number) (Decides-eqb (life_number a) (life_number b))
