@@ -1,7 +1,6 @@
 -- How many exchanges a course uses at most: its parts' bounds add up.
 use Rattle.std.proofs.Common.{◌≡◌, ℕ, ◌+◌, ◌≤◌, Bool, true, false, cond, ltb, List, [], ◌∷◌, length, Some, None, Ok, Err, Option, Result, ap, arith}
 use Rattle.bus.specs.declared.exchange.Request.{Request}
-use Rattle.bus.specs.declared.exchange.Reply.{Reply}
 use Rattle.bus.specs.declared.exchange.Gone.{Gone}
 use Rattle.bus.specs.declared.exchange.Exchange.{Exchange}
 use Rattle.bus.specs.Memory.{Memory}
@@ -25,7 +24,7 @@ one_answer : (q : Request) (m : Memory) (v : ℕ) (t : List Exchange) → (answe
 one_answer q m v [] = omega arith
 one_answer q m v (e ∷ t) = go (same e.request q)
   where
-    go : (b : Bool) → (cond {A = Out Reply} b (Ok e.reply, m, v + 1, t) (Err gone, m, v, e ∷ t)).2 ≤ v + 1
+    go : (b : Bool) → (cond {A = Out (Option ℕ)} b (Ok e.reply, m, v + 1, t) (Err gone, m, v, e ∷ t)).2 ≤ v + 1
     go true = omega arith
     go false = omega arith
 
@@ -51,7 +50,7 @@ pub at_less : {X : Type 0} {p : Act X} (i j : ℕ) → i ≤ j → AtMost i p �
 at_less i j l h = record { within = λ m v t. omega (arith, h.within m v t) }
 
 pub at_loads : (at : ℕ) → AtMost 1 (loads at)
-at_loads at = at_cond (ltb at 65408) (at_looks at 1) (at_bind 1 0 (at_asks _) (λ y. at_done _ 0))
+at_loads at = at_cond (ltb at 65408) (at_looks at 1) (at_asks _)
 
 pub at_stores : (at w : ℕ) → AtMost 1 (stores at w)
 at_stores at w = at_cond (ltb at 65408) (at_puts at w 1) (at_bind 1 0 (at_asks _) (λ y. at_done _ 0))

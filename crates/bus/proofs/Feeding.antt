@@ -1,8 +1,7 @@
 -- A course that was played comes with the exchanges that the side made, and fed with exactly these it ends the same.
-use Rattle.std.proofs.Common.{◌≡◌, ℕ, ◌+◌, Bool, true, false, cond, List, [], ◌∷◌, ◌++◌, length, Ok, Err, Result, sym, refl, ap, ◌∙◌, subst, arith, length-append}
+use Rattle.std.proofs.Common.{◌≡◌, ℕ, ◌+◌, Bool, true, false, cond, List, [], ◌∷◌, ◌++◌, length, Ok, Err, Result, sym, refl, ap, ◌∙◌, subst, arith, length-append, Option}
 use Rattle.std.proofs.lemmas.Bool.{cond-true, and_from}
 use Rattle.bus.specs.declared.exchange.Request.{Request}
-use Rattle.bus.specs.declared.exchange.Reply.{Reply}
 use Rattle.bus.specs.declared.exchange.Gone.{Gone}
 use Rattle.bus.specs.declared.exchange.Exchange.{Exchange}
 use Rattle.bus.specs.Memory.{Memory}
@@ -23,8 +22,8 @@ unfolding ext
 more_answers q m v [] w h = no_bool h
 more_answers q m v (e ∷ t) w h = go (same e.request q) h
   where
-    go : (b : Bool) → lost? (cond {A = Out Reply} b (Ok e.reply, m, v + 1, t) (Err gone, m, v, e ∷ t)).0 ≡ false
-        → cond {A = Out Reply} b (Ok e.reply, m, v + 1, t ++ w) (Err gone, m, v, e ∷ (t ++ w)) ≡ ext w (cond {A = Out Reply} b (Ok e.reply, m, v + 1, t) (Err gone, m, v, e ∷ t))
+    go : (b : Bool) → lost? (cond {A = Out (Option ℕ)} b (Ok e.reply, m, v + 1, t) (Err gone, m, v, e ∷ t)).0 ≡ false
+        → cond {A = Out (Option ℕ)} b (Ok e.reply, m, v + 1, t ++ w) (Err gone, m, v, e ∷ (t ++ w)) ≡ ext w (cond {A = Out (Option ℕ)} b (Ok e.reply, m, v + 1, t) (Err gone, m, v, e ∷ t))
     go true k = refl
     go false k = no_bool k
 

@@ -1,22 +1,16 @@
 -- Accesses at an address: the board's below the cabinet page, the cabinet side's on it.
 use Rattle.std.specs.Prelude.{ℕ, ◌-◌, ◌%◌, cond, Some, None, Option, nat_lt}
 use Rattle.bus.specs.declared.exchange.Request.TheVariants.{Read, Write, WriteByte}
-use Rattle.bus.specs.declared.exchange.Reply.{Reply}
-use Rattle.bus.specs.declared.exchange.Reply.TheVariants.{Answered, TimedOut}
 use Rattle.bus.specs.Courses.{Act, done, asks, looks, puts, puts_byte, bind}
 
--- A reply as a read takes it, and as a write does: nothing where it timed out.
-abbrev pub word : Reply → Option ℕ
-word (Answered w) = Some w
-word TimedOut = None
-
-abbrev pub taken : Reply → Option Unit
-taken (Answered w) = Some tt
-taken TimedOut = None
+-- A reply as a write takes it: nothing where it timed out.
+abbrev pub taken : Option ℕ → Option Unit
+taken (Some w) = Some tt
+taken None = None
 
 -- A word access at an odd address reaches the even one below.
 abbrev pub loads : ℕ → Act (Option ℕ)
-loads at = cond (nat_lt at 65408) (looks at) (bind (asks (Read (at - at % 2))) (λ a. done (word a)))
+loads at = cond (nat_lt at 65408) (looks at) (asks (Read (at - at % 2)))
 
 abbrev pub stores : ℕ → ℕ → Act (Option Unit)
 stores at w = cond (nat_lt at 65408) (puts at w) (bind (asks (Write (at - at % 2) w)) (λ a. done (taken a)))

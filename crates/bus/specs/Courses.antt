@@ -1,7 +1,6 @@
 -- Courses: what an operation asks of a board and a cabinet side, and how it goes on from each answer.
 use Rattle.std.specs.Prelude.{◌≡◌, ℕ, true, Ok, Err, Option, Result}
 use Rattle.bus.specs.declared.exchange.Request.{Request}
-use Rattle.bus.specs.declared.exchange.Reply.{Reply}
 use Rattle.bus.specs.declared.exchange.Gone.{Gone}
 use Rattle.bus.specs.Memory.{Memory, read, write, write_byte}
 use Rattle.bus.specs.Exchanges.{lawful_request, lawful_answer}
@@ -10,7 +9,7 @@ use Rattle.bus.specs.Exchanges.{lawful_request, lawful_answer}
 -- goes on from what a first course ended with. A request that finds the side gone ends the whole course.
 pub data Act : Type 0 → Type 1 where
   done : {X : Type 0} → X → Act X
-  asks : Request → Act Reply
+  asks : Request → Act (Option ℕ)
   looks : ℕ → Act (Option ℕ)
   puts : ℕ → ℕ → Act (Option Unit)
   puts_byte : ℕ → ℕ → Act (Option Unit)
@@ -18,7 +17,7 @@ pub data Act : Type 0 → Type 1 where
 
 -- What a cabinet side in each of its states would answer.
 abbrev pub Meaning : Type 0 → Type 0
-Meaning S = S → Request → Result Reply Gone
+Meaning S = S → Request → Result (Option ℕ) Gone
 
 -- What a cabinet side says of its next state.
 abbrev pub Becoming : Type 0 → Type 1

@@ -1,9 +1,7 @@
 -- Which requests may be asked of a cabinet side, and which replies they may have.
-use Rattle.std.specs.Prelude.{ℕ, ◌%◌, Bool, true, false, ◌&&◌, List, [], ◌∷◌, Ok, Err, Result, ◌==◌, nat_le, nat_lt}
+use Rattle.std.specs.Prelude.{ℕ, ◌%◌, Bool, true, false, ◌&&◌, List, [], ◌∷◌, Ok, Err, Result, ◌==◌, nat_le, nat_lt, Option, Some, None}
 use Rattle.bus.specs.declared.exchange.Request.{Request}
 use Rattle.bus.specs.declared.exchange.Request.TheVariants.{Read, Write, WriteByte, Lines, Vector, Init}
-use Rattle.bus.specs.declared.exchange.Reply.{Reply}
-use Rattle.bus.specs.declared.exchange.Reply.TheVariants.{Answered, TimedOut}
 use Rattle.bus.specs.declared.exchange.Gone.{Gone}
 use Rattle.bus.specs.declared.exchange.Exchange.{Exchange}
 
@@ -24,22 +22,22 @@ lawful_request Vector = true
 lawful_request Init = true
 
 -- Reads and the vector answer a word, writes and INIT answer 0, the lines 0 to 17 octal; lines and INIT never time out.
-abbrev pub lawful_reply : Request → Reply → Bool
-lawful_reply (Read at) (Answered w) = nat_lt w 65536
-lawful_reply (Read at) TimedOut = true
-lawful_reply (Write at v) (Answered w) = w == 0
-lawful_reply (Write at v) TimedOut = true
-lawful_reply (WriteByte at b) (Answered w) = w == 0
-lawful_reply (WriteByte at b) TimedOut = true
-lawful_reply Lines (Answered w) = nat_le w 15
-lawful_reply Lines TimedOut = false
-lawful_reply Vector (Answered w) = nat_lt w 65536
-lawful_reply Vector TimedOut = true
-lawful_reply Init (Answered w) = w == 0
-lawful_reply Init TimedOut = false
+abbrev pub lawful_reply : Request → Option ℕ → Bool
+lawful_reply (Read at) (Some w) = nat_lt w 65536
+lawful_reply (Read at) None = true
+lawful_reply (Write at v) (Some w) = w == 0
+lawful_reply (Write at v) None = true
+lawful_reply (WriteByte at b) (Some w) = w == 0
+lawful_reply (WriteByte at b) None = true
+lawful_reply Lines (Some w) = nat_le w 15
+lawful_reply Lines None = false
+lawful_reply Vector (Some w) = nat_lt w 65536
+lawful_reply Vector None = true
+lawful_reply Init (Some w) = w == 0
+lawful_reply Init None = false
 
 -- A side that is gone may be so at any request.
-abbrev pub lawful_answer : Request → Result Reply Gone → Bool
+abbrev pub lawful_answer : Request → Result (Option ℕ) Gone → Bool
 lawful_answer q (Ok x) = lawful_reply q x
 lawful_answer q (Err g) = true
 

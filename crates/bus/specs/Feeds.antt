@@ -1,8 +1,7 @@
 -- Courses whose requests are answered from a list of exchanges, and what exchanges a side has made.
-use Rattle.std.specs.Prelude.{◌≡◌, ℕ, ◌+◌, ◌≤◌, Bool, true, false, cond, ◌&&◌, List, [], ◌∷◌, length, Ok, Err, Result, ◌==◌}
+use Rattle.std.specs.Prelude.{◌≡◌, ℕ, ◌+◌, ◌≤◌, Bool, true, false, cond, ◌&&◌, List, [], ◌∷◌, length, Ok, Err, Result, ◌==◌, Option}
 use Rattle.bus.specs.declared.exchange.Request.{Request}
 use Rattle.bus.specs.declared.exchange.Request.TheVariants.{Read, Write, WriteByte, Lines, Vector, Init}
-use Rattle.bus.specs.declared.exchange.Reply.{Reply}
 use Rattle.bus.specs.declared.exchange.Gone.{Gone}
 use Rattle.bus.specs.declared.exchange.Exchange.{Exchange}
 use Rattle.bus.specs.Memory.{Memory, read, write, write_byte}
@@ -45,7 +44,7 @@ abbrev pub Out : Type 0 → Type 0
 Out X = Result X Gone × Memory × ℕ × List Exchange
 
 -- The next exchange answers the request if it fits; otherwise the side is gone.
-abbrev pub answers : Request → Memory → ℕ → List Exchange → Out Reply
+abbrev pub answers : Request → Memory → ℕ → List Exchange → Out (Option ℕ)
 answers q m used [] = (Err gone, m, used, [])
 answers q m used (e ∷ es) = cond (same e.request q) (Ok e.reply, m, used + 1, es) (Err gone, m, used, e ∷ es)
 

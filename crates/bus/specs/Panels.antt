@@ -1,9 +1,7 @@
 -- What a panel answers and becomes.
-use Rattle.std.specs.Prelude.{ℕ, ◌+◌, ◌/◌, ◌%◌, cond, Ok, Result, slice_index, slice_set}
+use Rattle.std.specs.Prelude.{ℕ, ◌+◌, ◌/◌, ◌%◌, cond, Ok, Result, slice_index, slice_set, Option, Some}
 use Rattle.bus.specs.declared.exchange.Request.{Request}
 use Rattle.bus.specs.declared.exchange.Request.TheVariants.{Read, Write, WriteByte, Lines, Vector, Init}
-use Rattle.bus.specs.declared.exchange.Reply.{Reply}
-use Rattle.bus.specs.declared.exchange.Reply.TheVariants.{Answered}
 use Rattle.bus.specs.declared.exchange.Gone.{Gone}
 use Rattle.bus.specs.declared.panel.LineBits.{LineBits}
 use Rattle.bus.specs.declared.panel.Panel.{Panel}
@@ -29,8 +27,8 @@ panel_word p Lines = line_word p.lines
 panel_word p Vector = p.vector
 panel_word p Init = 0
 
-abbrev pub panel_means : Panel → Request → Result Reply Gone
-panel_means p q = Ok (Answered (panel_word p q))
+abbrev pub panel_means : Panel → Request → Result (Option ℕ) Gone
+panel_means p q = Ok (Some (panel_word p q))
 
 -- The panel with another word at an address.
 abbrev pub with_panel_word : Panel → ℕ → ℕ → Panel

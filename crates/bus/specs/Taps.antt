@@ -1,7 +1,6 @@
 -- What a tap notes of the exchanges that go through it.
-use Rattle.std.specs.Prelude.{List, [], ◌∷◌, ◌++◌, take, Ok, Err, Result}
+use Rattle.std.specs.Prelude.{List, [], ◌∷◌, ◌++◌, take, Ok, Err, Result, Option, ℕ}
 use Rattle.bus.specs.declared.exchange.Request.{Request}
-use Rattle.bus.specs.declared.exchange.Reply.{Reply}
 use Rattle.bus.specs.declared.exchange.Gone.{Gone}
 use Rattle.bus.specs.declared.exchange.Exchange.{Exchange}
 use Rattle.bus.specs.declared.notes.Notes.{Notes}
@@ -15,7 +14,7 @@ abbrev pub noted : List Exchange → Exchange → List Exchange
 noted es e = take 11 (es ++ (e ∷ []))
 
 -- A request that finds the side gone is not noted.
-abbrev pub noting : List Exchange → Request → Result Reply Gone → List Exchange
+abbrev pub noting : List Exchange → Request → Result (Option ℕ) Gone → List Exchange
 noting es q (Ok a) = noted es (record { request = q; reply = a })
 noting es q (Err g) = es
 

@@ -4,7 +4,7 @@ ghost use Rattle.bus.specs.Accesses.{loads, stores, stores_byte};
 
 use crate::board::{Board, PAGE};
 use crate::cabinet::Cabinet;
-use crate::exchange::{Gone, Reply, Request};
+use crate::exchange::{Gone, Request};
 
 // The word at the even address at or below `at`, or a time-out.
 pub fn load<B: Board, C: Cabinet>(board: &mut B, side: &mut C, at: u16) -> Result<Option<u16>, Gone>
@@ -13,10 +13,7 @@ pub fn load<B: Board, C: Cabinet>(board: &mut B, side: &mut C, at: u16) -> Resul
     if at < PAGE {
         return Ok(board.read(at));
     }
-    match side.ask(Request::Read(at - at % 2))? {
-        Reply::Answered(word) => Ok(Some(word)),
-        Reply::TimedOut => Ok(None),
-    }
+    side.ask(Request::Read(at - at % 2))
 }
 
 // Writes a word at the even address at or below `at`.
@@ -31,10 +28,8 @@ pub fn store<B: Board, C: Cabinet>(
     if at < PAGE {
         return Ok(board.write(at, word));
     }
-    match side.ask(Request::Write(at - at % 2, word))? {
-        Reply::Answered(_) => Ok(Some(())),
-        Reply::TimedOut => Ok(None),
-    }
+    let reply = side.ask(Request::Write(at - at % 2, word))?;
+    Ok(reply.map(|_| ()))
 }
 
 // Writes a byte at `at`.
@@ -49,8 +44,6 @@ pub fn store_byte<B: Board, C: Cabinet>(
     if at < PAGE {
         return Ok(board.write_byte(at, byte));
     }
-    match side.ask(Request::WriteByte(at, byte))? {
-        Reply::Answered(_) => Ok(Some(())),
-        Reply::TimedOut => Ok(None),
-    }
+    let reply = side.ask(Request::WriteByte(at, byte))?;
+    Ok(reply.map(|_| ()))
 }

@@ -2,7 +2,7 @@
 
 // What the processor asks of the cabinet side: accesses to the cabinet page, the request lines, the vector of a
 // vectored interrupt, and INIT, which resets what is attached.
-#[derive(Clone, Copy)]
+#[derive(Clone, Copy, PartialEq, Eq, Debug)]
 pub enum Request {
     Read(u16),
     Write(u16, u16),
@@ -12,20 +12,13 @@ pub enum Request {
     Init,
 }
 
-// An answer with its word, 0 where the request has none to give, or a time-out.
-#[derive(Clone, Copy)]
-pub enum Reply {
-    Answered(u16),
-    TimedOut,
-}
-
 // The cabinet side is no longer there: nothing was answered, and nothing timed out.
-#[derive(Clone, Copy)]
+#[derive(Clone, Copy, PartialEq, Eq, Debug)]
 pub struct Gone;
 
-// A request that was answered or timed out.
-#[derive(Clone, Copy)]
+// A request with its reply: a word, 0 where the request has none to give, or `None` where it timed out.
+#[derive(Clone, Copy, PartialEq, Eq, Debug)]
 pub struct Exchange {
     pub request: Request,
-    pub reply: Reply,
+    pub reply: Option<u16>,
 }

@@ -18,7 +18,7 @@ pub use access::{load, store, store_byte};
 pub use board::{Board, PAGE};
 pub use cabinet::Cabinet;
 pub use cabinet_board::CabinetBoard;
-pub use exchange::{Exchange, Gone, Reply, Request};
+pub use exchange::{Exchange, Gone, Request};
 pub use flat::FlatBoard;
 pub use notes::Notes;
 pub use panel::{LineBits, Panel};

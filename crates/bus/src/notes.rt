@@ -2,7 +2,7 @@
 ghost use Rattle.std.specs.Prelude.{◌≡◌, ◌+◌, min, [], length, if◌then◌else◌, nat_lt, slice_set};
 ghost use Rattle.bus.specs.Taps.{listed, noted};
 
-use crate::exchange::{Exchange, Reply, Request};
+use crate::exchange::{Exchange, Request};
 
 // How many exchanges there is place for.
 const PLACES: usize = 11;
@@ -42,7 +42,7 @@ impl Notes {
     {
         let blank = Exchange {
             request: Request::Lines,
-            reply: Reply::Answered(0),
+            reply: Some(0),
         };
         Notes {
             table: [blank; 11],

@@ -1,14 +1,13 @@
 // The panel: a cabinet side that the host sets by hand.
-ghost use Rattle.std.specs.Prelude.{◌≡◌, ◌<◌, if◌then◌else◌, Ok};
-ghost use Rattle.bus.specs.declared.exchange.Reply.TheVariants.{Answered};
+ghost use Rattle.std.specs.Prelude.{◌≡◌, ◌<◌, if◌then◌else◌, Ok, Some};
 ghost use Rattle.bus.specs.Panels.{line_word, panel_after, panel_means, place, word_of_panel};
 
 use crate::cabinet::Cabinet;
-use crate::exchange::{Gone, Reply, Request};
+use crate::exchange::{Gone, Request};
 use crate::words::with_half;
 
 // The four request lines; `true` is active.
-#[derive(Clone, Copy)]
+#[derive(Clone, Copy, Default, PartialEq, Eq, Debug)]
 pub struct LineBits {
     pub aclo: bool,
     pub irq2: bool,
@@ -39,11 +38,11 @@ fn place_of(at: u16) -> usize
 }
 
 // A panel answers every request.
-fn answer(word: u16) -> Result<Reply, Gone>
-    ensures word { result ≡ Ok (Answered word) }
+fn answer(word: u16) -> Result<Option<u16>, Gone>
+    ensures word { result ≡ Ok (Some word) }
     ensures fits { word < 65536 }
 {
-    Ok(Reply::Answered(word))
+    Ok(Some(word))
 }
 
 // A cabinet side of 64 words, one for each even address of the page, four lines and a vector, set together by the host. It
@@ -86,7 +85,7 @@ impl Cabinet for Panel {
 
     ghost becomes = { λ p q u. u ≡ panel_after p q };
 
-    fn ask(&mut self, request: Request) -> Result<Reply, Gone> {
+    fn ask(&mut self, request: Request) -> Result<Option<u16>, Gone> {
         match request {
             Request::Read(at) => answer(self.words[place_of(at)]),
             Request::Write(at, word) => {

@@ -3,7 +3,7 @@ ghost use Rattle.std.specs.Prelude.{◌≡◌, []};
 ghost use Rattle.bus.specs.Taps.{listed, noting};
 
 use crate::cabinet::Cabinet;
-use crate::exchange::{Exchange, Gone, Reply, Request};
+use crate::exchange::{Exchange, Gone, Request};
 use crate::notes::Notes;
 
 // Answers as the side below it does, and notes the exchanges since it was made or cleared: eleven at most, and none for a
@@ -47,7 +47,7 @@ impl<C: Cabinet> Cabinet for Tap<'_, C> {
 
     ghost becomes = { λ t q u. C.Cabinet.becomes t.side.now q u.side.now × (listed u.notes ≡ noting (listed t.notes) q (C.Cabinet.meaning t.side.now q)) × (u.side.ghost_name ≡ t.side.ghost_name) };
 
-    fn ask(&mut self, request: Request) -> Result<Reply, Gone> {
+    fn ask(&mut self, request: Request) -> Result<Option<u16>, Gone> {
         let answer = self.side.ask(request);
         match answer {
             Ok(reply) => self.notes.note(Exchange { request, reply }),
@@ -58,7 +58,7 @@ impl<C: Cabinet> Cabinet for Tap<'_, C> {
 }
 
 // One request through a tap: the side's own answer and next state, and notes of just that exchange.
-pub fn ask_noted<C: Cabinet>(side: &mut C, request: Request) -> (Result<Reply, Gone>, Notes)
+pub fn ask_noted<C: Cabinet>(side: &mut C, request: Request) -> (Result<Option<u16>, Gone>, Notes)
     ensures answered { result.0 ≡ C.Cabinet.meaning side.old request }
     ensures moved { C.Cabinet.becomes side.old request side.new }
     ensures noted { listed result.1 ≡ noting [] request result.0 }

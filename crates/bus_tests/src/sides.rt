@@ -1,5 +1,5 @@
 // The panel, and a tap over it.
-use bus::{Cabinet, LineBits, Panel, Reply, Request, Tap};
+use bus::{Cabinet, LineBits, Panel, Request, Tap};
 use std::test::Fail;
 
 const QUIET: LineBits = LineBits {
@@ -12,7 +12,7 @@ const QUIET: LineBits = LineBits {
 // The word of an answer; a time-out or a loss is none that a panel gives.
 fn asked<C: Cabinet>(side: &mut C, request: Request) -> Option<u16> {
     match side.ask(request) {
-        Ok(Reply::Answered(word)) => Some(word),
+        Ok(Some(word)) => Some(word),
         _ => None,
     }
 }

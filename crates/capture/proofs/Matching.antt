@@ -1,11 +1,9 @@
 -- Exchanges and records stand one for one; a request that matches another is that one.
-use Rattle.std.proofs.Common.{◌≡◌, ℕ, ◌≤◌, Bool, true, false, cond, eqb, leb, sym, refl, ap, ◌∙◌, subst, inl, inr, arith}
+use Rattle.std.proofs.Common.{◌≡◌, ℕ, ◌≤◌, Bool, true, false, cond, eqb, leb, sym, refl, ap, ◌∙◌, subst, inl, inr, arith, Option, Some, None}
 use Rattle.std.proofs.lemmas.Bool.{false≢true, eqb-true, eqb-false, leb-true, cases_Bool}
 use Rattle.std.proofs.lemmas.Bool.Decides.{nat_tests}
 use Rattle.bus.specs.declared.exchange.Request.{Request}
 use Rattle.bus.specs.declared.exchange.Request.TheVariants.{Read, Write, WriteByte, Lines, Vector, Init}
-use Rattle.bus.specs.declared.exchange.Reply.{Reply}
-use Rattle.bus.specs.declared.exchange.Reply.TheVariants.{Answered, TimedOut}
 use Rattle.capture.specs.Words.{both}
 use Rattle.capture.specs.Records.{Plain, plain}
 use Rattle.capture.specs.Lawful.{lawful}
@@ -44,19 +42,19 @@ same_is q r h =
 no_word_lem : (v : ℕ) (x : Bool) → both x (eqb v 0) ≡ true → v ≡ 0
 no_word_lem v x h = eqb-true v 0 (both_parts x (eqb v 0) h).1
 
-pub written : (q : Request) (r : Reply) → reply_is_lawful q r ≡ true → KeptByRecord (exchange q r)
-written (Read a) (Answered w) h = record { lawful = grind (arith, nat_tests); same = refl }
-written (Read a) TimedOut h = record { lawful = grind (arith, nat_tests); same = refl }
-written (Write a w) (Answered v) h = record { lawful = grind (arith, nat_tests); same = ap (λ (n : ℕ). exchange (Write a w) (Answered n)) (sym (no_word_lem v _ h)) }
-written (Write a w) TimedOut h = record { lawful = grind (arith, nat_tests); same = refl }
-written (WriteByte a b) (Answered v) h = record { lawful = grind (arith, nat_tests); same = ap (λ (n : ℕ). exchange (WriteByte a b) (Answered n)) (sym (no_word_lem v _ h)) }
-written (WriteByte a b) TimedOut h = record { lawful = grind (arith, nat_tests); same = refl }
-written Lines (Answered w) h = record { lawful = h; same = refl }
-written Lines TimedOut h = absurd (false≢true h)
-written Vector (Answered w) h = record { lawful = refl; same = refl }
-written Vector TimedOut h = record { lawful = refl; same = refl }
-written Init (Answered w) h = record { lawful = refl; same = ap (λ (n : ℕ). exchange Init (Answered n)) (sym (eqb-true w 0 h)) }
-written Init TimedOut h = absurd (false≢true h)
+pub written : (q : Request) (r : Option ℕ) → reply_is_lawful q r ≡ true → KeptByRecord (exchange q r)
+written (Read a) (Some w) h = record { lawful = grind (arith, nat_tests); same = refl }
+written (Read a) None h = record { lawful = grind (arith, nat_tests); same = refl }
+written (Write a w) (Some v) h = record { lawful = grind (arith, nat_tests); same = ap (λ (n : ℕ). exchange (Write a w) (Some n)) (sym (no_word_lem v _ h)) }
+written (Write a w) None h = record { lawful = grind (arith, nat_tests); same = refl }
+written (WriteByte a b) (Some v) h = record { lawful = grind (arith, nat_tests); same = ap (λ (n : ℕ). exchange (WriteByte a b) (Some n)) (sym (no_word_lem v _ h)) }
+written (WriteByte a b) None h = record { lawful = grind (arith, nat_tests); same = refl }
+written Lines (Some w) h = record { lawful = h; same = refl }
+written Lines None h = absurd (false≢true h)
+written Vector (Some w) h = record { lawful = refl; same = refl }
+written Vector None h = record { lawful = refl; same = refl }
+written Init (Some w) h = record { lawful = refl; same = ap (λ (n : ℕ). exchange Init (Some n)) (sym (eqb-true w 0 h)) }
+written Init None h = absurd (false≢true h)
 
 -- a lawful record has mark 1 or 0
 marks : (k m a w : ℕ) (P : ℕ → Type 0) → lawful (plain k m a w) ≡ true → P 1 → P 0 → P m

@@ -1,9 +1,7 @@
 -- Exchanges and records: a lawful exchange is one lawful record, and a lawful record one lawful exchange.
-use Rattle.std.specs.Prelude.{◌≡◌, ℕ, Bool, true, false, cond, List, [], ◌∷◌, Ok, Err, Result, ◌==◌, nat_le, nat_lt}
+use Rattle.std.specs.Prelude.{◌≡◌, ℕ, Bool, true, false, cond, List, [], ◌∷◌, Ok, Err, Result, ◌==◌, nat_le, nat_lt, Option, Some, None}
 use Rattle.bus.specs.declared.exchange.Request.{Request}
 use Rattle.bus.specs.declared.exchange.Request.TheVariants.{Read, Write, WriteByte, Lines, Vector, Init}
-use Rattle.bus.specs.declared.exchange.Reply.{Reply}
-use Rattle.bus.specs.declared.exchange.Reply.TheVariants.{Answered, TimedOut}
 use Rattle.bus.specs.declared.exchange.Gone.{Gone}
 use Rattle.bus.specs.declared.exchange.Exchange.{Exchange}
 use Rattle.capture.specs.Words.{both}
@@ -11,7 +9,7 @@ use Rattle.capture.specs.Records.{Plain, plain}
 use Rattle.capture.specs.Lawful.{is_on_page, even, lawful}
 
 -- an exchange from request and reply
-abbrev pub exchange : Request → Reply → Exchange
+abbrev pub exchange : Request → Option ℕ → Exchange
 exchange q r = record { request = q; reply = r }
 
 -- kinds, in the order of the six requests
@@ -42,17 +40,17 @@ sent_by Vector = 0
 sent_by Init = 0
 
 -- 1 answered, 0 timed out
-abbrev pub mark_of : Reply → ℕ
-mark_of (Answered w) = 1
-mark_of TimedOut = 0
+abbrev pub mark_of : Option ℕ → ℕ
+mark_of (Some w) = 1
+mark_of None = 0
 
 -- the word answered, else 0
-abbrev pub answered_word : Reply → ℕ
-answered_word (Answered w) = w
-answered_word TimedOut = 0
+abbrev pub answered_word : Option ℕ → ℕ
+answered_word (Some w) = w
+answered_word None = 0
 
 -- the word sent or answered, else 0
-abbrev pub word_of : Request → Reply → ℕ
+abbrev pub word_of : Request → Option ℕ → ℕ
 word_of (Read a) r = answered_word r
 word_of (Write a w) r = w
 word_of (WriteByte a b) r = b
@@ -65,8 +63,8 @@ abbrev pub record_of : Exchange → Plain
 record_of e = plain (kind_of e.request) (mark_of e.reply) (address_of e.request) (word_of e.request e.reply)
 
 -- a mark and a word as a reply
-abbrev pub reply_with : ℕ → ℕ → Reply
-reply_with m w = cond (m == 1) (Answered w) TimedOut
+abbrev pub reply_with : ℕ → ℕ → Option ℕ
+reply_with m w = cond (m == 1) (Some w) None
 
 -- the exchange of a record: a write and INIT are answered with 0
 abbrev pub exchange_with : ℕ → ℕ → ℕ → ℕ → Exchange
@@ -83,22 +81,22 @@ abbrev pub exchange_of : Plain → Exchange
 exchange_of p = exchange_with p.kind p.mark p.address p.word
 
 -- answered with 0, or timed out
-abbrev pub no_word : Reply → Bool
+abbrev pub no_word : Option ℕ → Bool
 no_word r = answered_word r == 0
 
 -- answered with at most the four lines
-abbrev pub four_lines : Reply → Bool
-four_lines (Answered w) = nat_le w 0o17
-four_lines TimedOut = false
+abbrev pub four_lines : Option ℕ → Bool
+four_lines (Some w) = nat_le w 0o17
+four_lines None = false
 
 -- answered with 0
-abbrev pub plainly_answered : Reply → Bool
-plainly_answered (Answered w) = w == 0
-plainly_answered TimedOut = false
+abbrev pub plainly_answered : Option ℕ → Bool
+plainly_answered (Some w) = w == 0
+plainly_answered None = false
 
 -- which exchanges there can be: words at even addresses of the page, bytes anywhere on it; writes and INIT are answered with no
 -- word; lines and INIT never time out
-abbrev pub reply_is_lawful : Request → Reply → Bool
+abbrev pub reply_is_lawful : Request → Option ℕ → Bool
 reply_is_lawful (Read a) r = both (is_on_page a) (even a)
 reply_is_lawful (Write a w) r = both (both (is_on_page a) (even a)) (no_word r)
 reply_is_lawful (WriteByte a b) r = both (both (is_on_page a) (nat_lt b 256)) (no_word r)
@@ -119,7 +117,7 @@ abbrev pub gone : Gone
 gone = record {}
 
 -- the next exchange answers if its request is the one asked
-abbrev pub answers : Request → List Exchange → Result Reply Gone
+abbrev pub answers : Request → List Exchange → Result (Option ℕ) Gone
 answers q [] = Err gone
 answers q (e ∷ es) = cond (same_request e.request q) (Ok e.reply) (Err gone)
 
@@ -129,7 +127,7 @@ leaves q [] = []
 leaves q (e ∷ es) = cond (same_request e.request q) es (e ∷ es)
 
 -- a lawful reply to the request, or none
-abbrev pub answer_is_lawful : Request → Result Reply Gone → Bool
+abbrev pub answer_is_lawful : Request → Result (Option ℕ) Gone → Bool
 answer_is_lawful q (Ok r) = reply_is_lawful q r
 answer_is_lawful q (Err g) = true
 

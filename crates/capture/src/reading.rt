@@ -13,7 +13,7 @@ use crate::checks::{check, word, word_at};
 use crate::feed::Feed;
 use crate::record::{Record, reply_with, same_request};
 use crate::refusal::Refusal;
-use bus::{Gone, Reply, Request};
+use bus::{Gone, Request};
 
 // The record that the bytes begin with.
 fn first_record<'a>(bytes: &'a [u8]) -> Record<'a>
@@ -169,7 +169,7 @@ impl<'a> Feed<'a> {
 
     // Answers a request with the next record, which is used by that, if it is of this request; otherwise the feed is gone, and
     // nothing is used.
-    pub fn ask(&mut self, request: Request) -> Result<Reply, Gone>
+    pub fn ask(&mut self, request: Request) -> Result<Option<u16>, Gone>
         ensures answered { result ≡ answers request (exchanges_left self.old) }
         ensures lawful { answer_is_lawful request result ≡ true }
         ensures moved { exchanges_left self.new ≡ leaves request (exchanges_left self.old) }

@@ -1,17 +1,16 @@
 // Records as they are handed out: one case for each request.
-ghost use Rattle.std.specs.Prelude.{◌≡◌, if◌then◌else◌};
-ghost use Rattle.bus.specs.declared.exchange.Reply.TheVariants.{Answered, TimedOut};
+ghost use Rattle.std.specs.Prelude.{◌≡◌, if◌then◌else◌, Some, None};
 ghost use Rattle.capture.specs.Handed.{shown, added_of};
 ghost use Rattle.capture.specs.Exchanges.{exchange_of, same_request};
 
-use bus::{Exchange, Reply, Request};
+use bus::{Exchange, Request};
 
 // A record of a checked capture. `added` is what its header has beyond four bytes, as a part of the capture.
 #[derive(Clone, Copy)]
 pub enum Record<'a> {
     Read {
         address: u16,
-        reply: Reply,
+        reply: Option<u16>,
         added: &'a [u8],
     },
     Write {
@@ -31,7 +30,7 @@ pub enum Record<'a> {
         added: &'a [u8],
     },
     Vector {
-        reply: Reply,
+        reply: Option<u16>,
         added: &'a [u8],
     },
     Init {
@@ -40,14 +39,10 @@ pub enum Record<'a> {
 }
 
 // A reply from a mark and a word.
-pub(crate) fn reply_with(answered: bool, word: u16) -> Reply
-    ensures { result ≡ (if answered then Answered word else TimedOut) }
+pub(crate) fn reply_with(answered: bool, word: u16) -> Option<u16>
+    ensures { result ≡ (if answered then Some word else None) }
 {
-    if answered {
-        Reply::Answered(word)
-    } else {
-        Reply::TimedOut
-    }
+    if answered { Some(word) } else { None }
 }
 
 impl<'a> Record<'a> {
@@ -84,7 +79,7 @@ impl<'a> Record<'a> {
             }
             Record::Lines { word, .. } => Exchange {
                 request: Request::Lines,
-                reply: Reply::Answered(word),
+                reply: Some(word),
             },
             Record::Vector { reply, .. } => Exchange {
                 request: Request::Vector,
@@ -92,7 +87,7 @@ impl<'a> Record<'a> {
             },
             Record::Init { .. } => Exchange {
                 request: Request::Init,
-                reply: Reply::Answered(0),
+                reply: Some(0),
             },
         }
     }

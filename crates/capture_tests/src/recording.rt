@@ -1,5 +1,5 @@
 // A recorder is filled, its bytes are compared with a file, and a feed over them is asked the same again.
-use bus::{Exchange, Reply, Request};
+use bus::{Exchange, Request};
 use capture::Feed;
 use capture::block::BLOCK;
 use recorder::{NotNoted, Recorder};
@@ -22,19 +22,19 @@ fn exchange(i: u16) -> Exchange {
         _ => Request::Vector,
     };
     let reply = match i % 6 {
-        0 => Reply::Answered(0),
-        1 => Reply::Answered(i % 16),
-        2 | 5 if !timed_out => Reply::Answered(word),
-        3 | 4 if !timed_out => Reply::Answered(0),
-        _ => Reply::TimedOut,
+        0 => Some(0),
+        1 => Some(i % 16),
+        2 | 5 if !timed_out => Some(word),
+        3 | 4 if !timed_out => Some(0),
+        _ => None,
     };
     Exchange { request, reply }
 }
 
-fn same_reply(a: Reply, b: Reply) -> bool {
+fn same_reply(a: Option<u16>, b: Option<u16>) -> bool {
     match (a, b) {
-        (Reply::Answered(v), Reply::Answered(w)) => v == w,
-        (Reply::TimedOut, Reply::TimedOut) => true,
+        (Some(v), Some(w)) => v == w,
+        (None, None) => true,
         _ => false,
     }
 }
@@ -68,7 +68,7 @@ fn run_recording(rt: &HostRuntime, blocks: u8, header: u8, file: &str) -> io::Re
     let free = recorder.place();
     let odd = Exchange {
         request: Request::Read(0o177601),
-        reply: Reply::Answered(0),
+        reply: Some(0),
     };
     let unlawful = match recorder.note(odd) {
         Err(NotNoted::Unlawful) => "refused",

@@ -5,7 +5,6 @@ ghost use Rattle.capture.specs.Exchanges.{mark_of, answered_word};
 ghost use Rattle.capture.specs.Handed.{shown};
 ghost use Rattle.inspection.specs.Texts.{kind_text, mark_text, octal_text, hex_digit, hex_text};
 
-use bus::Reply;
 use capture::Record;
 
 // A record as records are compared; `answered` is its mark.
@@ -17,17 +16,17 @@ pub struct Fields {
     pub word: u16,
 }
 
-fn of_reply(kind: u8, address: u16, reply: Reply) -> Fields
+fn of_reply(kind: u8, address: u16, reply: Option<u16>) -> Fields
     ensures { plain result.kind (if result.answered then 1 else 0) result.address result.word ≡ plain kind (mark_of reply) address (answered_word reply) }
 {
     match reply {
-        Reply::Answered(word) => Fields {
+        Some(word) => Fields {
             kind,
             answered: true,
             address,
             word,
         },
-        Reply::TimedOut => Fields {
+        None => Fields {
             kind,
             answered: false,
             address,

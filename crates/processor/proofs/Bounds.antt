@@ -2,7 +2,6 @@
 use Rattle.std.proofs.Common.{◌≡◌, ℕ, ◌+◌, Bool, true, false, ltb, Some, None, Option, refl, lit≤}
 use Rattle.isa.specs.Reading.{reading}
 use Rattle.bus.specs.declared.exchange.Request.TheVariants.{Lines, Vector, Init}
-use Rattle.bus.specs.declared.exchange.Reply.TheVariants.{Answered, TimedOut}
 use Rattle.bus.specs.Accesses.{loads}
 use Rattle.bus.specs.Feeds.{AtMost}
 use Rattle.bus.proofs.Bounds.{at_done, at_looks, at_bind, at_option, at_less, at_loads, at_asks}
@@ -75,7 +74,7 @@ at_advances p =
 at_enters_asked : (p : Processor) → AtMost 5 (enters_asked p)
 unfolding enters_asked
 at_enters_asked p =
-    at_bind 1 4 (at_asks Vector) (elim [ Answered w ↦ at_enters _ 1 1 (at_loads _) (at_loads _) p | TimedOut ↦ at_done _ 4 ])
+    at_bind 1 4 (at_asks Vector) (elim [ Some w ↦ at_enters _ 1 1 (at_loads _) (at_loads _) p | None ↦ at_done _ 4 ])
 
 at_accepts : (a : Accepted) (p : Processor) → AtMost 5 (accepts a p)
 unfolding accepts

@@ -2,7 +2,6 @@
 use Rattle.std.proofs.Common.{◌≡◌, ℕ, ◌+◌, ◌≤◌, Bool, true, false, cond, List, [], ◌∷◌, Some, None, Ok, Err, Option, Result, sym, refl, ap, ◌∙◌, subst, arith}
 use Rattle.bus.specs.declared.exchange.Request.{Request}
 use Rattle.bus.specs.declared.exchange.Request.TheVariants.{Read, Write, WriteByte, Lines, Vector, Init}
-use Rattle.bus.specs.declared.exchange.Reply.{Reply}
 use Rattle.bus.specs.declared.exchange.Gone.{Gone}
 use Rattle.bus.specs.declared.exchange.Exchange.{Exchange}
 use Rattle.bus.specs.Memory.{Memory}
@@ -45,7 +44,7 @@ grows_answers : (q : Request) (m : Memory) (v : ℕ) (t : List Exchange) → v �
 grows_answers q m v [] = omega arith
 grows_answers q m v (e ∷ t) = go (same e.request q)
   where
-    go : (b : Bool) → v ≤ (cond {A = Out Reply} b (Ok e.reply, m, v + 1, t) (Err gone, m, v, e ∷ t)).2
+    go : (b : Bool) → v ≤ (cond {A = Out (Option ℕ)} b (Ok e.reply, m, v + 1, t) (Err gone, m, v, e ∷ t)).2
     go true = omega arith
     go false = omega arith
 
@@ -87,7 +86,7 @@ unfolding does steps
 first_other p m used e es h =
     ap (λ b. closes p (onto (λ y. feed (chooses (sampled (lines_of y) p))) (c b).0 (c b).1 (c b).2 (c b).3)) h
   where
-    c : Bool → Out Reply
+    c : Bool → Out (Option ℕ)
     c b = cond b (Ok e.reply, m, used + 1, es) (Err gone, m, used, e ∷ es)
 
 pub lines_first : LinesFirst

@@ -1,7 +1,6 @@
 -- What users of a restart or a step can rely on.
 use Rattle.std.specs.Prelude.{◌≡◌, ℕ, ◌+◌, ◌≤◌, true, false, List, [], ◌∷◌, Some, None, Ok, Err, Option, Result, ◌≢◌}
 use Rattle.bus.specs.declared.exchange.Request.TheVariants.{Lines}
-use Rattle.bus.specs.declared.exchange.Reply.{Reply}
 use Rattle.bus.specs.declared.exchange.Gone.{Gone}
 use Rattle.bus.specs.declared.exchange.Exchange.{Exchange}
 use Rattle.bus.specs.Memory.{Memory}
@@ -44,7 +43,7 @@ pub record LinesFirst : Type 0 where
   pub lost_with_another : (p : Processor) (m : Memory) (used : ℕ) (e : Exchange) (es : List Exchange)
       → (e.request ≢ Lines) → does Step (standing p m used (e ∷ es)) ≡ (Err gone, standing (with_life p Ended) m used (e ∷ es))
   -- with the lines it uses them
-  pub used_with_lines : (p : Processor) (m : Memory) (used : ℕ) (lines : Reply) (es : List Exchange)
+  pub used_with_lines : (p : Processor) (m : Memory) (used : ℕ) (lines : Option ℕ) (es : List Exchange)
       → used + 1 ≤ (does Step (standing p m used (record { request = Lines; reply = lines } ∷ es))).1.used
 
 -- Processors that are alike but for lines and requests.
@@ -57,7 +56,7 @@ pub record AlikeButForLines (p q : Processor) : Type 0 where
 
 -- A step of a processor that does not run takes note of the lines, and does nothing else.
 pub record Idleness : Type 0 where
-  pub idle : (p : Processor) (m : Memory) (used : ℕ) (lines : Reply) (es : List Exchange) → (p.life ≢ Running)
+  pub idle : (p : Processor) (m : Memory) (used : ℕ) (lines : Option ℕ) (es : List Exchange) → (p.life ≢ Running)
       → (q : Processor)
       × ((does Step (standing p m used (record { request = Lines; reply = lines } ∷ es)) ≡ (Ok Idle, standing q m (used + 1) es))
       × (q.lines ≡ lines_of lines)

@@ -1,7 +1,5 @@
 -- The request lines, and the request that is accepted.
 use Rattle.std.specs.Prelude.{ℕ, ◌/◌, Bool, false, cond, not, ◌&&◌, ◌||◌, Some, None, Option}
-use Rattle.bus.specs.declared.exchange.Reply.{Reply}
-use Rattle.bus.specs.declared.exchange.Reply.TheVariants.{Answered, TimedOut}
 use Rattle.bus.specs.declared.panel.LineBits.{LineBits}
 use Rattle.arithmetic.specs.Status.{odd}
 use Rattle.operands.specs.declared.state.Processor.{Processor}
@@ -9,9 +7,9 @@ use Rattle.processor.specs.declared.sample.Accepted.{Accepted}
 use Rattle.processor.specs.declared.sample.Accepted.TheVariants.{Aclo, Irq2, Irq3, Virq}
 
 -- The lines of an answer, where 1 is active: bit 0 ACLO, 1 IRQ2, 2 IRQ3, 3 VIRQ. (The request for them never times out.)
-abbrev pub lines_of : Reply → LineBits
-lines_of (Answered w) = record { aclo = odd w; irq2 = odd (w / 2); irq3 = odd (w / 4); virq = odd (w / 8) }
-lines_of TimedOut = record { aclo = false; irq2 = false; irq3 = false; virq = false }
+abbrev pub lines_of : Option ℕ → LineBits
+lines_of (Some w) = record { aclo = odd w; irq2 = odd (w / 2); irq3 = odd (w / 4); virq = odd (w / 8) }
+lines_of None = record { aclo = false; irq2 = false; irq3 = false; virq = false }
 
 -- A request is set when its line is active now and was not last time.
 abbrev pub requested : Bool → Bool → Bool → Bool

@@ -2,7 +2,6 @@
 use Rattle.std.specs.Prelude.{ℕ, ◌*◌, ◌/◌, Bool, true, false, Some, None, Option}
 use Rattle.isa.specs.Reading.{reading}
 use Rattle.bus.specs.declared.exchange.Request.TheVariants.{Lines, Vector}
-use Rattle.bus.specs.declared.exchange.Reply.TheVariants.{Answered, TimedOut}
 use Rattle.bus.specs.Courses.{Act, done, asks, bind}
 use Rattle.operands.specs.declared.state.Life.{Life}
 use Rattle.operands.specs.declared.state.Life.TheVariants.{Running, Halted, Dead, Ended}
@@ -64,8 +63,8 @@ advances p = bind (fetches p) (λ z. elim z.0 [
 -- VIRQ's vector is asked for; its two low bits are cleared. Nothing is entered where the request times out.
 unfoldable pub enters_asked : Processor → Act (Answer × Processor)
 enters_asked p = bind (asks Vector) (λ a. elim a [
-  | Answered w ↦ enters (w / 4 * 4) p
-  | TimedOut ↦ dies p
+  | Some w ↦ enters (w / 4 * 4) p
+  | None ↦ dies p
 ])
 
 -- An accepted request is cleared and entered.

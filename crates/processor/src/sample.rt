@@ -3,7 +3,7 @@ ghost use Rattle.std.specs.Prelude.{◌≡◌};
 ghost use Rattle.arithmetic.specs.Status.{odd};
 ghost use Rattle.processor.specs.Sampling.{lines_of, sampled, traces, masks, accepted};
 
-use bus::{LineBits, Reply};
+use bus::LineBits;
 use operands::{Processor, Requests};
 
 // A request that interrupts the processor.
@@ -21,17 +21,17 @@ fn is_odd(n: u16) -> bool
     n % 2 == 1
 }
 
-pub(crate) fn lines_in(reply: Reply) -> LineBits
+pub(crate) fn lines_in(reply: Option<u16>) -> LineBits
     ensures { result ≡ lines_of reply }
 {
     match reply {
-        Reply::Answered(word) => LineBits {
+        Some(word) => LineBits {
             aclo: is_odd(word),
             irq2: is_odd(word / 2),
             irq3: is_odd(word / 4),
             virq: is_odd(word / 8),
         },
-        Reply::TimedOut => LineBits {
+        None => LineBits {
             aclo: false,
             irq2: false,
             irq3: false,

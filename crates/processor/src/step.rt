@@ -7,7 +7,7 @@ ghost use Rattle.processor.specs.Stepping.{vector, traced, concludes, performs, 
 use crate::answer::Answer;
 use crate::enter::{die, enter};
 use crate::sample::{Accepted, accept_first, is_tracing, lines_in, sample};
-use bus::{Board, Cabinet, Gone, Reply, Request};
+use bus::{Board, Cabinet, Gone, Request};
 use execution::{Ending, Trap, execute};
 use isa::decode;
 use operands::{Life, Processor, fetch};
@@ -90,8 +90,8 @@ fn enter_asked<B: Board, C: Cabinet>(
     ensures { Played C.Cabinet.meaning C.Cabinet.becomes (enters_asked p.old) (B.Board.meaning board.old) side.old (beside result p.new) (B.Board.meaning board.new) side.new }
 {
     match side.ask(Request::Vector)? {
-        Reply::Answered(word) => enter(p, board, side, word / 4 * 4),
-        Reply::TimedOut => Ok(die(p)),
+        Some(word) => enter(p, board, side, word / 4 * 4),
+        None => Ok(die(p)),
     }
 }
 

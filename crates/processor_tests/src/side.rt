@@ -2,7 +2,7 @@
 ghost use Rattle.std.specs.Prelude.{◌≡◌};
 ghost use Rattle.processor_tests.specs.Sides.{stuck_means};
 
-use bus::{Cabinet, Gone, Reply, Request};
+use bus::{Cabinet, Gone, Request};
 
 // Its lines are quiet but for VIRQ; requests to the page and for a vector time out, or find it gone once it is unplugged.
 #[derive(Clone, Copy)]
@@ -16,23 +16,11 @@ impl Cabinet for Stuck {
 
     ghost becomes = { λ s q u. u ≡ s };
 
-    fn ask(&mut self, request: Request) -> Result<Reply, Gone> {
+    fn ask(&mut self, request: Request) -> Result<Option<u16>, Gone> {
         match request {
-            Request::Lines => {
-                if self.virq {
-                    Ok(Reply::Answered(8))
-                } else {
-                    Ok(Reply::Answered(0))
-                }
-            }
-            Request::Init => Ok(Reply::Answered(0)),
-            _ => {
-                if self.unplugged {
-                    Err(Gone)
-                } else {
-                    Ok(Reply::TimedOut)
-                }
-            }
+            Request::Lines => { if self.virq { Ok(Some(8)) } else { Ok(Some(0)) } }
+            Request::Init => Ok(Some(0)),
+            _ => { if self.unplugged { Err(Gone) } else { Ok(None) } }
         }
     }
 }

@@ -4,7 +4,7 @@ ghost use Rattle.capture.specs.Exchanges.{kind_of, address_of, mark_of, word_of,
 ghost use Rattle.capture.specs.Layout.{stamped};
 ghost use Rattle.recorder.specs.Recording.{added_by};
 
-use bus::{Exchange, Reply, Request};
+use bus::{Exchange, Request};
 
 // The header length without added bytes, and with the rig's number.
 pub(crate) const PLAIN_HEADER: u8 = 4;
@@ -44,25 +44,25 @@ fn address(request: Request) -> u16
     }
 }
 
-fn mark(reply: Reply) -> u8
+fn mark(reply: Option<u16>) -> u8
     ensures { result ≡ mark_of reply }
 {
     match reply {
-        Reply::Answered(_) => 1,
-        Reply::TimedOut => 0,
+        Some(_) => 1,
+        None => 0,
     }
 }
 
 // The word sent or answered, else 0.
-fn word(request: Request, reply: Reply) -> u16
+fn word(request: Request, reply: Option<u16>) -> u16
     ensures { result ≡ word_of request reply }
 {
     match (request, reply) {
         (Request::Write(_, word), _) => word,
         (Request::WriteByte(_, byte), _) => u16::from(byte),
         (Request::Init, _) => 0,
-        (_, Reply::Answered(word)) => word,
-        (_, Reply::TimedOut) => 0,
+        (_, Some(word)) => word,
+        (_, None) => 0,
     }
 }
 
@@ -72,14 +72,14 @@ pub(crate) fn lawful(exchange: Exchange) -> bool
 {
     match (exchange.request, exchange.reply) {
         (Request::Read(at), _) => at >= PAGE && at % 2 == 0,
-        (Request::Write(at, _), Reply::Answered(word)) => at >= PAGE && at % 2 == 0 && word == 0,
-        (Request::Write(at, _), Reply::TimedOut) => at >= PAGE && at % 2 == 0,
-        (Request::WriteByte(at, _), Reply::Answered(word)) => at >= PAGE && word == 0,
-        (Request::WriteByte(at, _), Reply::TimedOut) => at >= PAGE,
-        (Request::Lines, Reply::Answered(word)) => word <= MOST_LINES,
+        (Request::Write(at, _), Some(word)) => at >= PAGE && at % 2 == 0 && word == 0,
+        (Request::Write(at, _), None) => at >= PAGE && at % 2 == 0,
+        (Request::WriteByte(at, _), Some(word)) => at >= PAGE && word == 0,
+        (Request::WriteByte(at, _), None) => at >= PAGE,
+        (Request::Lines, Some(word)) => word <= MOST_LINES,
         (Request::Vector, _) => true,
-        (Request::Init, Reply::Answered(word)) => word == 0,
-        (Request::Lines, Reply::TimedOut) | (Request::Init, Reply::TimedOut) => false,
+        (Request::Init, Some(word)) => word == 0,
+        (Request::Lines, None) | (Request::Init, None) => false,
     }
 }
 

@@ -4,8 +4,6 @@ use Rattle.std.proofs.lemmas.Bool.{leb-true, and_parts, false≢true}
 use Rattle.std.proofs.lemmas.Bool.Decides.{nat_tests as ways}
 use Rattle.bus.specs.declared.exchange.Request.{Request}
 use Rattle.bus.specs.declared.exchange.Request.TheVariants.{Read, Write, WriteByte, Lines, Vector, Init}
-use Rattle.bus.specs.declared.exchange.Reply.{Reply}
-use Rattle.bus.specs.declared.exchange.Reply.TheVariants.{Answered, TimedOut}
 use Rattle.bus.specs.declared.exchange.Gone.{Gone}
 use Rattle.bus.specs.declared.exchange.Exchange.{Exchange}
 use Rattle.bus.specs.Exchanges.{lawful_exchange, all_lawful}
@@ -107,19 +105,19 @@ record KeptWhole (e : Exchange) : Type 0 where
   can : writable (record_of e) ≡ true
   back : exchange_of (record_of e) ≡ e
 
-kept_whole : (q : Request) (r : Reply) → lawful_exchange (exchange q r) ≡ true → KeptWhole (exchange q r)
-kept_whole (Read a) (Answered w) h = record { can = grind (arith, ways); back = refl }
-kept_whole (Read a) TimedOut h = record { can = grind (arith, ways); back = refl }
-kept_whole (Write a w) (Answered v) h = record { can = grind (arith, ways); back = (written (Write a w) (Answered v) (grind (arith, ways))).same }
-kept_whole (Write a w) TimedOut h = record { can = grind (arith, ways); back = refl }
-kept_whole (WriteByte a b) (Answered v) h = record { can = grind (arith, ways); back = (written (WriteByte a b) (Answered v) (grind (arith, ways))).same }
-kept_whole (WriteByte a b) TimedOut h = record { can = grind (arith, ways); back = refl }
-kept_whole Lines (Answered w) h = record { can = grind (arith, ways); back = refl }
-kept_whole Lines TimedOut h = absurd (false≢true h)
-kept_whole Vector (Answered w) h = record { can = grind (arith, ways); back = refl }
-kept_whole Vector TimedOut h = record { can = refl; back = refl }
-kept_whole Init (Answered w) h = record { can = refl; back = (written Init (Answered w) h).same }
-kept_whole Init TimedOut h = absurd (false≢true h)
+kept_whole : (q : Request) (r : Option ℕ) → lawful_exchange (exchange q r) ≡ true → KeptWhole (exchange q r)
+kept_whole (Read a) (Some w) h = record { can = grind (arith, ways); back = refl }
+kept_whole (Read a) None h = record { can = grind (arith, ways); back = refl }
+kept_whole (Write a w) (Some v) h = record { can = grind (arith, ways); back = (written (Write a w) (Some v) (grind (arith, ways))).same }
+kept_whole (Write a w) None h = record { can = grind (arith, ways); back = refl }
+kept_whole (WriteByte a b) (Some v) h = record { can = grind (arith, ways); back = (written (WriteByte a b) (Some v) (grind (arith, ways))).same }
+kept_whole (WriteByte a b) None h = record { can = grind (arith, ways); back = refl }
+kept_whole Lines (Some w) h = record { can = grind (arith, ways); back = refl }
+kept_whole Lines None h = absurd (false≢true h)
+kept_whole Vector (Some w) h = record { can = grind (arith, ways); back = refl }
+kept_whole Vector None h = record { can = refl; back = refl }
+kept_whole Init (Some w) h = record { can = refl; back = (written Init (Some w) h).same }
+kept_whole Init None h = absurd (false≢true h)
 
 all_writable_lem : (es : List Exchange) → all_lawful es ≡ true → all_writable (map record_of es) ≡ true
 all_writable_lem [] h = refl

@@ -2,7 +2,6 @@
 use Rattle.std.proofs.Common.{◌≡◌, ℕ, zero, suc, ◌+◌, ◌≤◌, Bool, true, false, cond, List, [], ◌∷◌, ◌++◌, length, take, drop, Some, None, Ok, Err, Option, Result, sym, refl, ap, ◌∙◌, subst, inl, inr, arith, take-append-drop, length-take}
 use lib.Seq.{take-append-le}
 use Rattle.bus.specs.declared.exchange.Request.{Request}
-use Rattle.bus.specs.declared.exchange.Reply.{Reply}
 use Rattle.bus.specs.declared.exchange.Gone.{Gone}
 use Rattle.bus.specs.declared.exchange.Exchange.{Exchange}
 use Rattle.bus.specs.Memory.{Memory, read, write, write_byte}
@@ -41,7 +40,7 @@ module _ (k : ℕ) (a b : List Exchange) where
   twin_answers q n v [] e h = absurd (h (omega arith))
   twin_answers q n v (x ∷ c) e h = go (same x.request q)
     where
-      go : (t : Bool) → Twin k a b (cond {A = Out Reply} t (Ok x.reply, n, v + 1, c ++ a) (Err gone, n, v, x ∷ (c ++ a))) (cond {A = Out Reply} t (Ok x.reply, n, v + 1, c ++ b) (Err gone, n, v, x ∷ (c ++ b)))
+      go : (t : Bool) → Twin k a b (cond {A = Out (Option ℕ)} t (Ok x.reply, n, v + 1, c ++ a) (Err gone, n, v, x ∷ (c ++ a))) (cond {A = Out (Option ℕ)} t (Ok x.reply, n, v + 1, c ++ b) (Err gone, n, v, x ∷ (c ++ b)))
       go true = record { end = Ok x.reply; mem = n; at = v + 1; common = c; left = refl; right = refl; upto = omega arith }
       go false = record { end = Err gone; mem = n; at = v; common = x ∷ c; left = refl; right = refl; upto = e }
 

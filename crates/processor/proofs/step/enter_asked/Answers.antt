@@ -6,10 +6,10 @@ pub returns-in_err-word : goal.returns-in_err-word
 unfolding enters_asked
 returns-in_err-word g c = search rules
 
-pub returns-in-Answered : goal.returns-in-Answered
+pub returns-in-Some : goal.returns-in-Some
 unfolding enters_asked
-returns-in-Answered g c = search rules
+returns-in-Some g c = search rules
 
-pub returns-in-TimedOut : goal.returns-in-TimedOut
+pub returns-in-None : goal.returns-in-None
 unfolding enters_asked
-returns-in-TimedOut g c = search rules
+returns-in-None g c = search rules
