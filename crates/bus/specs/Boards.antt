@@ -19,8 +19,11 @@ abbrev pub flat : List ℕ → Memory
 flat bytes = λ n. cond (nat_lt n 32704) (held opened bytes n) silent
 
 -- The cabinet board has open RAM from 000000 and fixed ROM from 100000 octal, which is word number 16384.
+abbrev pub above_ram : List ℕ → Memory
+above_ram rom = λ n. cond (nat_lt n 32704) (held fixed rom (n - 16384)) silent
+
 abbrev pub cabinet_board : List ℕ → List ℕ → Memory
-cabinet_board ram rom = λ n. cond (nat_lt n 16384) (held opened ram n) (cond (nat_lt n 32704) (held fixed rom (n - 16384)) silent)
+cabinet_board ram rom = λ n. cond (nat_lt n 16384) (held opened ram n) (above_ram rom n)
 
 -- The bytes after a word is written, and after a byte is.
 abbrev pub with_word : List ℕ → ℕ → ℕ → List ℕ

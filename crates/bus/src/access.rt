@@ -32,7 +32,7 @@ pub fn store<B: Board, C: Cabinet>(
     Ok(reply.map(|_| ()))
 }
 
-// Writes a byte at `at`.
+// Writes a byte at `at`. Not one function with `store`: an odd address stays, and board and side are asked by other names.
 pub fn store_byte<B: Board, C: Cabinet>(
     board: &mut B,
     side: &mut C,

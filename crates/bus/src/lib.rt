@@ -8,6 +8,7 @@ pub mod cabinet_board;
 pub mod exchange;
 pub mod flat;
 pub mod laws;
+mod note;
 pub mod notes;
 pub mod panel;
 pub mod refusal;

@@ -20,14 +20,11 @@ impl LineBits {
     pub fn word(self) -> u16
         ensures { result ≡ line_word self }
     {
-        bit(self.aclo, 1) + bit(self.irq2, 2) + bit(self.irq3, 4) + bit(self.virq, 8)
+        u16::from(self.aclo)
+            + 2 * u16::from(self.irq2)
+            + 4 * u16::from(self.irq3)
+            + 8 * u16::from(self.virq)
     }
-}
-
-fn bit(active: bool, value: u16) -> u16
-    ensures { result ≡ (if active then value else 0) }
-{
-    if active { value } else { 0 }
 }
 
 // Which of the 64 words an address of the page names.
@@ -86,20 +83,20 @@ impl Cabinet for Panel {
     ghost becomes = { λ p q u. u ≡ panel_after p q };
 
     fn ask(&mut self, request: Request) -> Result<Option<u16>, Gone> {
-        match request {
-            Request::Read(at) => answer(self.words[place_of(at)]),
+        let word = match request {
+            Request::Read(at) => self.word(at),
             Request::Write(at, word) => {
                 self.words[place_of(at)] = word;
-                answer(0)
+                0
             }
             Request::WriteByte(at, byte) => {
-                let i = place_of(at);
-                self.words[i] = with_half(self.words[i], at, byte);
-                answer(0)
+                self.words[place_of(at)] = with_half(self.word(at), at, byte);
+                0
             }
-            Request::Lines => answer(self.lines.word()),
-            Request::Vector => answer(self.vector),
-            Request::Init => answer(0),
-        }
+            Request::Lines => self.lines.word(),
+            Request::Vector => self.vector,
+            Request::Init => 0,
+        };
+        answer(word)
     }
 }

@@ -2,21 +2,19 @@
 ghost use Rattle.std.specs.Prelude.{◌≡◌};
 ghost use Rattle.bus.specs.Refusals.{number};
 
-#[derive(Clone, Copy)]
+#[derive(Clone, Copy, PartialEq, Eq, Debug)]
 pub enum Refusal {
     // The bytes to be written, a flat board's or a cabinet board's RAM, have a length that it cannot have.
-    Ram,
+    Ram = 1,
     // The ROM has a length that it cannot have.
-    Rom,
+    Rom = 2,
 }
 
 impl Refusal {
+    // The number by which operators know it.
     pub fn number(self) -> u8
         ensures { result ≡ number self }
     {
-        match self {
-            Refusal::Ram => 1,
-            Refusal::Rom => 2,
-        }
+        self as u8
     }
 }

@@ -49,9 +49,8 @@ impl<C: Cabinet> Cabinet for Tap<'_, C> {
 
     fn ask(&mut self, request: Request) -> Result<Option<u16>, Gone> {
         let answer = self.side.ask(request);
-        match answer {
-            Ok(reply) => self.notes.note(Exchange { request, reply }),
-            Err(Gone) => {}
+        if let Ok(reply) = answer {
+            self.notes.note(Exchange { request, reply });
         }
         answer
     }

@@ -10,7 +10,7 @@ pub(crate) fn word_at(bytes: &[u8], number: u16) -> Option<u16>
 {
     let low = 2 * number as usize;
     if low + 1 < bytes.len() {
-        return Some(bytes[low] as u16 + 256 * bytes[low + 1] as u16);
+        return Some(u16::from_le_bytes([bytes[low], bytes[low + 1]]));
     }
     None
 }
@@ -21,8 +21,7 @@ pub(crate) fn put_word(bytes: &mut [u8], number: u16, word: u16) -> Option<()>
 {
     let low = 2 * number as usize;
     if low + 1 < bytes.len() {
-        bytes[low] = (word % 256) as u8;
-        bytes[low + 1] = (word / 256) as u8;
+        [bytes[low], bytes[low + 1]] = word.to_le_bytes();
         return Some(());
     }
     None
@@ -33,9 +32,7 @@ pub(crate) fn put_byte(bytes: &mut [u8], at: u16, byte: u8) -> Option<()>
     ensures bytes { (result, bytes.new) ≡ put (whole bytes.old (at / 2)) (with_byte bytes.old at byte) bytes.old }
     ensures halves { whole bytes.old (at / 2) ≡ true → (slice_index bytes.old (2 * (at / 2)) < 256) × (slice_index bytes.old (2 * (at / 2) + 1) < 256) }
 {
-    let Some(_) = word_at(bytes, at / 2) else {
-        return None;
-    };
+    word_at(bytes, at / 2)?;
     bytes[at as usize] = byte;
     Some(())
 }
@@ -44,9 +41,10 @@ pub(crate) fn put_byte(bytes: &mut [u8], at: u16, byte: u8) -> Option<()>
 pub(crate) fn with_half(old: u16, at: u16, byte: u8) -> u16
     ensures { result ≡ with_half at byte old }
 {
-    if at % 2 == 0 {
-        old / 256 * 256 + byte as u16
+    let [low, high] = old.to_le_bytes();
+    u16::from_le_bytes(if at % 2 == 0 {
+        [byte, high]
     } else {
-        byte as u16 * 256 + old % 256
-    }
+        [low, byte]
+    })
 }

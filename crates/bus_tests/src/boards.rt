@@ -1,44 +1,41 @@
 // Both boards at the first and last addresses of their parts.
-use bus::{Board, CabinetBoard, FlatBoard};
+use bus::{Board, CabinetBoard, FlatBoard, Refusal};
 use std::test::Fail;
 
-fn refused_flat(length: usize) -> u8 {
-    match FlatBoard::question(length) {
-        Ok(_) => 0,
-        Err(refusal) => refusal.number(),
-    }
-}
-
-fn refused_cabinet(ram: usize, rom: usize) -> u8 {
-    match CabinetBoard::question(ram, rom) {
-        Ok(_) => 0,
-        Err(refusal) => refusal.number(),
-    }
+// The number of a question's refusal, or 0.
+fn refused<S: Drop>(answer: Result<S, Refusal>) -> u8 {
+    answer.err().map_or(0, |refusal| refusal.number())
 }
 
 #[test]
 fn lengths_are_asked_in_order(rt: HostRuntime) {
     assert_eq!(rt;
         (
-            refused_flat(65_535),
-            refused_flat(65_536),
-            refused_flat(65_537),
+            refused(FlatBoard::question(65_535)),
+            refused(FlatBoard::question(65_536)),
+            refused(FlatBoard::question(65_537)),
         ),
         (1, 0, 1)
     );
     assert_eq!(rt;
-        (refused_cabinet(32_768, 32_640), refused_cabinet(0, 0)),
+        (
+            refused(CabinetBoard::question(32_768, 32_640)),
+            refused(CabinetBoard::question(0, 0))
+        ),
         (0, 0)
     );
     assert_eq!(rt;
-        (refused_cabinet(32_767, 0), refused_cabinet(32_770, 0)),
+        (
+            refused(CabinetBoard::question(32_767, 0)),
+            refused(CabinetBoard::question(32_770, 0))
+        ),
         (1, 1)
     );
     assert_eq!(rt;
         (
-            refused_cabinet(0, 32_639),
-            refused_cabinet(0, 32_642),
-            refused_cabinet(1, 1),
+            refused(CabinetBoard::question(0, 32_639)),
+            refused(CabinetBoard::question(0, 32_642)),
+            refused(CabinetBoard::question(1, 1)),
         ),
         (2, 2, 1)
     );

@@ -2,24 +2,14 @@
 use bus::{Cabinet, LineBits, Panel, Request, Tap};
 use std::test::Fail;
 
-const QUIET: LineBits = LineBits {
-    aclo: false,
-    irq2: false,
-    irq3: false,
-    virq: false,
-};
-
 // The word of an answer; a time-out or a loss is none that a panel gives.
 fn asked<C: Cabinet>(side: &mut C, request: Request) -> Option<u16> {
-    match side.ask(request) {
-        Ok(Some(word)) => Some(word),
-        _ => None,
-    }
+    side.ask(request).ok().flatten()
 }
 
 #[test]
 fn panel_stores_and_shows(rt: HostRuntime) {
-    let mut panel = Panel::new([7; 64], QUIET, 0);
+    let mut panel = Panel::new([7; 64], LineBits::default(), 0);
     assert_eq!(rt;
         (
             asked(&mut panel, Request::Lines),
@@ -67,22 +57,20 @@ fn panel_stores_and_shows(rt: HostRuntime) {
 
 #[test]
 fn tap_notes_eleven(rt: HostRuntime) -> Result<(), Fail> {
-    let mut panel = Panel::new([0; 64], QUIET, 0);
+    let mut panel = Panel::new([0; 64], LineBits::default(), 0);
     let mut tap = Tap::over(&mut panel);
     for word in 0..12 {
         assert_eq!(rt; asked(&mut tap, Request::Write(0o177600, word)), Some(0));
     }
     assert_eq!(rt; asked(&mut tap, Request::Read(0o177600)), Some(11));
     let notes = tap.notes();
-    let mut count = 0;
-    for exchange in notes.exchanges() {
-        match exchange.request {
-            Request::Write(_, word) => assert_eq!(rt; word, count),
-            _ => return Err(Fail::new("a read is noted")),
-        }
-        count = count.wrapping_add(1);
+    for (count, exchange) in notes.exchanges().iter().enumerate() {
+        let Request::Write(_, word) = exchange.request else {
+            return Err(Fail::new("a read is noted"));
+        };
+        assert_eq!(rt; usize::from(word), count);
     }
-    assert_eq!(rt; count, 11);
+    assert_eq!(rt; notes.exchanges().len(), 11);
     tap.clear();
     assert_eq!(rt; tap.notes().exchanges().len(), 0);
     Ok(())

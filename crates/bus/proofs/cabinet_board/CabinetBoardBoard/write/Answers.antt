@@ -1,9 +1,7 @@
-use Rattle.std.proofs.Common.{◌-◌, cond, ltb, arith, rules}
-use Rattle.bus.specs.Memory.{silent, fixed}
-use Rattle.bus.specs.Boards.{held}
+use Rattle.std.proofs.Common.{arith}
+use Rattle.bus.specs.Boards.{above_ram}
 use Rattle.bus.proofs.Halves.{word_put}
 use Rattle.bus.proofs.cabinet_board.CabinetBoardBoard.write.Goals as goal
 
-pub returns-then-at-lt-ROM : goal.returns-then-at-lt-ROM
-returns-then-at-lt-ROM c =
-    record { meant = word_put 16384 (λ k. cond (ltb k 32704) (held fixed c.args.self.now.rom.now (k - 16384)) silent) c.args.self.now.ram.now _ _ c.args.at c.args.word (omega arith) c.put_word.ensures; bytes = search rules }
+pub returns-then-at-lt-ROM-clause-meant : goal.returns-then-at-lt-ROM-clause-meant
+returns-then-at-lt-ROM-clause-meant c = word_put 16384 (above_ram c.args.self.now.rom.now) c.args.self.now.ram.now _ _ c.args.at c.args.word (omega arith) c.put_word.ensures
