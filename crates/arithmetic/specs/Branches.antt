@@ -2,7 +2,7 @@
 use Rattle.std.specs.Prelude.{Bool, true, not, ◌||◌}
 use Rattle.isa.specs.declared.instruction.Condition.{Condition}
 use Rattle.isa.specs.declared.instruction.Condition.TheVariants.{Br, Bne, Beq, Bge, Blt, Bgt, Ble, Bpl, Bmi, Bhi, Blos, Bvc, Bvs, Bcc, Bcs}
-use Rattle.arithmetic.specs.declared.flags.Flags.{Flags}
+use Rattle.isa.specs.declared.flags.Flags.{Flags}
 use Rattle.arithmetic.specs.Outcomes.{◌xor◌}
 
 -- a branch with this condition is taken under these flags

@@ -3,7 +3,7 @@ use Rattle.std.specs.Prelude.{ℕ, ◌-◌, ◌%◌, Bool, false, None, bit_and,
 use Rattle.isa.specs.declared.instruction.Size.{Size}
 use Rattle.isa.specs.declared.instruction.DoubleOperation.{DoubleOperation}
 use Rattle.isa.specs.declared.instruction.DoubleOperation.TheVariants.{Mov, Cmp, Bit, Bic, Bis}
-use Rattle.arithmetic.specs.declared.flags.Flags.{Flags}
+use Rattle.isa.specs.declared.flags.Flags.{Flags}
 use Rattle.arithmetic.specs.declared.outcome.Outcome.{Outcome}
 use Rattle.arithmetic.specs.Outcomes.{logical, flags_only}
 use Rattle.arithmetic.specs.Sums.{difference_of}

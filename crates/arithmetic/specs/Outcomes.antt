@@ -1,7 +1,7 @@
 -- What an operation leaves: a result, or none, and the four flags.
 use Rattle.std.specs.Prelude.{ℕ, ◌<◌, Bool, true, false, not, IfSome, Some, None, ◌==◌}
 use Rattle.isa.specs.declared.instruction.Size.{Size}
-use Rattle.arithmetic.specs.declared.flags.Flags.{Flags}
+use Rattle.isa.specs.declared.flags.Flags.{Flags}
 use Rattle.arithmetic.specs.declared.outcome.Outcome.{Outcome}
 use Rattle.arithmetic.specs.Widths.{negative, span}
 

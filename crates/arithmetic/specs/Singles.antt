@@ -3,7 +3,7 @@ use Rattle.std.specs.Prelude.{ℕ, ◌+◌, ◌-◌, ◌*◌, ◌/◌, ◌%◌, 
 use Rattle.isa.specs.declared.instruction.Size.{Size}
 use Rattle.isa.specs.declared.instruction.SingleOperation.{SingleOperation}
 use Rattle.isa.specs.declared.instruction.SingleOperation.TheVariants.{Clr, Com, Inc, Dec, Neg, Adc, Sbc, Tst, Ror, Rol, Asr, Asl}
-use Rattle.arithmetic.specs.declared.flags.Flags.{Flags}
+use Rattle.isa.specs.declared.flags.Flags.{Flags}
 use Rattle.arithmetic.specs.declared.outcome.Outcome.{Outcome}
 use Rattle.arithmetic.specs.Outcomes.{◌xor◌, result, flags_only}
 use Rattle.arithmetic.specs.Status.{bit, odd}

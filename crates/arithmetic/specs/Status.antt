@@ -1,37 +1,18 @@
 -- The flags in the status word: C is bit 0, V bit 1, Z bit 2, N bit 3.
-use Rattle.std.specs.Prelude.{ℕ, ◌+◌, ◌*◌, ◌/◌, ◌%◌, Bool, cond, not, ◌&&◌, ◌||◌, ◌==◌}
+use Rattle.std.specs.Prelude.{ℕ, ◌/◌, ◌%◌, Bool, not, ◌&&◌, ◌||◌, ◌==◌}
 use Rattle.isa.specs.declared.instruction.FlagChange.{FlagChange}
 use Rattle.isa.specs.declared.instruction.FlagChange.TheVariants.{Clear, Set}
-use Rattle.isa.specs.declared.instruction.FlagMask.{FlagMask}
 use Rattle.isa.specs.declared.instruction.Size.TheVariants.{Byte}
-use Rattle.arithmetic.specs.declared.flags.Flags.{Flags}
+use Rattle.isa.specs.declared.flags.Flags.{Flags}
 use Rattle.arithmetic.specs.declared.outcome.Outcome.{Outcome}
+unfoldable pub use Rattle.isa.specs.Status.{flags_of, with_flags}
+pub use Rattle.isa.specs.Word.{bit}
 use Rattle.arithmetic.specs.Outcomes.{logical}
 use Rattle.arithmetic.specs.Widths.{joined}
-
--- a bit as a number
-abbrev pub bit : Bool → ℕ
-bit b = cond b 1 0
 
 -- the last binary digit is 1
 abbrev pub odd : ℕ → Bool
 odd n = n % 2 == 1
-
--- the flags that four bits are
-abbrev pub flags_in : ℕ → Flags
-flags_in bits = record { n = odd (bits / 8); z = odd (bits / 4); v = odd (bits / 2); c = odd bits }
-
--- the four bits that flags are
-abbrev pub bits_of : Flags → ℕ
-bits_of f = 8 * bit f.n + 4 * bit f.z + 2 * bit f.v + bit f.c
-
--- the flags that a status word holds
-unfoldable pub flags_of : ℕ → Flags
-flags_of status = flags_in (status % 16)
-
--- the status word with these flags, its other bits kept
-unfoldable pub with_flags : ℕ → Flags → ℕ
-with_flags status f = status / 16 * 16 + bits_of f
 
 -- MTPS: the low byte of the operand in the place of the status word's
 unfoldable pub with_low_byte : ℕ → ℕ → ℕ
@@ -42,7 +23,7 @@ unfoldable pub from_status_outcome : ℕ → Outcome
 from_status_outcome status = logical Byte (status % 256) (flags_of status).c
 
 -- 000240 to 000257 clear the flags of the mask, 000260 to 000277 set them; the others are kept
-abbrev pub changed_flags : FlagChange → FlagMask → Flags → Flags
+abbrev pub changed_flags : FlagChange → Flags → Flags → Flags
 changed_flags Clear m f =
     record { n = not m.n && f.n; z = not m.z && f.z; v = not m.v && f.v; c = not m.c && f.c }
 changed_flags Set m f = record { n = m.n || f.n; z = m.z || f.z; v = m.v || f.v; c = m.c || f.c }

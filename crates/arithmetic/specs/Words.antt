@@ -1,7 +1,7 @@
 -- The operations that exist for words alone.
 use Rattle.std.specs.Prelude.{ℕ, ◌/◌, ◌%◌, Bool, false, cond, not, Some, bit_xor}
 use Rattle.isa.specs.declared.instruction.Size.TheVariants.{Word, Byte}
-use Rattle.arithmetic.specs.declared.flags.Flags.{Flags}
+use Rattle.isa.specs.declared.flags.Flags.{Flags}
 use Rattle.arithmetic.specs.declared.outcome.Outcome.{Outcome}
 use Rattle.arithmetic.specs.Outcomes.{flagged, logical}
 use Rattle.arithmetic.specs.Sums.{sum_of, difference_of}

@@ -2,8 +2,7 @@
 ghost use Rattle.std.specs.Prelude.{◌≡◌};
 ghost use Rattle.arithmetic.specs.Branches.{branches};
 
-use crate::flags::Flags;
-use isa::Condition;
+use isa::{Condition, Flags};
 
 // Whether a branch with this condition is taken.
 pub fn taken(condition: Condition, flags: Flags) -> bool

@@ -2,7 +2,6 @@
 #![tactic(auto)]
 
 pub mod branch;
-pub mod flags;
 pub mod laws;
 pub mod one_operand;
 pub mod outcome;
@@ -14,7 +13,7 @@ mod width;
 pub mod word;
 
 pub use branch::taken;
-pub use flags::Flags;
+pub use isa::Flags;
 pub use laws::arithmetic_laws;
 pub use one_operand::single;
 pub use outcome::Outcome;

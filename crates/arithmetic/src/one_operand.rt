@@ -4,10 +4,9 @@ ghost use Rattle.arithmetic.specs.Outcomes.{Holds};
 ghost use Rattle.arithmetic.specs.Singles.{complemented, incremented, decremented, negated, carry_added, carry_taken, moved, rotated_right, rotated_left, single_below, single_outcome};
 ghost use Rattle.arithmetic.specs.Widths.{span};
 
-use crate::flags::Flags;
 use crate::outcome::Outcome;
 use crate::width;
-use isa::{SingleOperation, Size};
+use isa::{Flags, SingleOperation, Size};
 
 // COM: every bit turned.
 fn complement(size: Size, x: u16) -> Outcome

@@ -2,9 +2,8 @@
 ghost use Rattle.std.specs.Prelude.{◌≡◌};
 ghost use Rattle.arithmetic.specs.Outcomes.{flagged, result as resulting, logical, flags_only};
 
-use crate::flags::Flags;
 use crate::width;
-use isa::Size;
+use isa::{Flags, Size};
 
 // The result, `None` for an operation that only sets flags, and the flags afterwards.
 #[derive(Clone, Copy)]

@@ -4,10 +4,9 @@ ghost use Rattle.arithmetic.specs.Outcomes.{Holds};
 ghost use Rattle.arithmetic.specs.Status.{with_low_byte, from_status_outcome, changed_flags};
 ghost use Rattle.isa.specs.declared.instruction.Size.TheVariants.{Byte};
 
-use crate::flags::Flags;
 use crate::outcome::Outcome;
 use crate::width;
-use isa::{FlagChange, FlagMask, Size};
+use isa::{FlagChange, FlagMask, Flags, Size};
 
 // MTPS: the status word with its low byte replaced by that of the operand.
 pub fn to_status(status: u16, operand: u16) -> u16

@@ -4,10 +4,9 @@ ghost use Rattle.arithmetic.specs.Doubles.{compared, double_below, double_outcom
 ghost use Rattle.arithmetic.specs.Outcomes.{Holds};
 ghost use Rattle.arithmetic.specs.Widths.{span};
 
-use crate::flags::Flags;
 use crate::outcome::Outcome;
 use crate::{sums, width};
-use isa::{DoubleOperation, Size};
+use isa::{DoubleOperation, Flags, Size};
 
 // CMP: the flags of source minus destination.
 fn compare(size: Size, s: u16, d: u16) -> Outcome

@@ -2,10 +2,9 @@
 ghost use Rattle.std.specs.Prelude.{◌≡◌};
 ghost use Rattle.arithmetic.specs.Words.{add_outcome, subtract_outcome, exclusive_or_outcome, swap_outcome, all_bits, extend_outcome};
 
-use crate::flags::Flags;
 use crate::outcome::{Outcome, flags_after};
 use crate::{sums, width};
-use isa::Size;
+use isa::{Flags, Size};
 
 // ADD: source plus destination.
 pub fn add(source: u16, destination: u16) -> Outcome

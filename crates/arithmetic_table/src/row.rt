@@ -1,7 +1,7 @@
 // A row of the table: an operation, its operands, and what it must leave.
 use crate::name::Operation;
 use arithmetic::{Flags, Outcome};
-use isa::{FlagChange, FlagMask};
+use isa::FlagChange;
 
 // The flags stand as the number that they are in the low bits of a status word.
 #[derive(Clone, Copy)]
@@ -28,16 +28,6 @@ fn result_of(field: &str) -> Option<Option<u16>> {
         return Some(None);
     }
     Some(Some(octal(field)?))
-}
-
-fn mask_of(word: u16) -> FlagMask {
-    let bits = Flags::of_status(word);
-    FlagMask {
-        n: bits.n,
-        z: bits.z,
-        v: bits.v,
-        c: bits.c,
-    }
 }
 
 fn change_of(word: u16) -> FlagChange {
@@ -101,7 +91,11 @@ impl Row {
             Operation::PutFlags => plain(old.put_into(self.source), old),
             Operation::ChangeFlags => Outcome {
                 value: None,
-                flags: arithmetic::change_flags(change_of(self.source), mask_of(self.source), old),
+                flags: arithmetic::change_flags(
+                    change_of(self.source),
+                    Flags::of_status(self.source),
+                    old,
+                ),
             },
             Operation::Branch(condition) => {
                 plain(

@@ -4,7 +4,7 @@ use Rattle.isa.specs.declared.instruction.Size.TheVariants.{Byte}
 use Rattle.isa.specs.declared.instruction.Control.{Control}
 use Rattle.isa.specs.declared.instruction.Control.TheVariants.{Halt, Wait, Rti, Bpt, Iot, Reset, Rtt}
 use Rattle.isa.specs.declared.instruction.FlagChange.{FlagChange}
-use Rattle.isa.specs.declared.instruction.FlagMask.{FlagMask}
+use Rattle.isa.specs.declared.flags.Flags.{Flags}
 use Rattle.isa.specs.declared.instruction.Instruction.{Instruction}
 use Rattle.isa.specs.declared.instruction.Instruction.TheVariants as word
 use Rattle.bus.specs.declared.exchange.Request.TheVariants.{Init}
@@ -38,7 +38,7 @@ controls Reset p = resets p
 controls Rtt p = restores ReturnedFromTrace p
 
 -- The flag words clear or set the flags of their mask.
-abbrev pub reflagged : FlagChange → FlagMask → Processor → Processor
+abbrev pub reflagged : FlagChange → Flags → Processor → Processor
 reflagged change mask p = with_psw p (with_flags p.psw (changed_flags change mask (flags_of p.psw)))
 
 unfoldable pub executes : Instruction → Processor → Act (Ending × Processor)

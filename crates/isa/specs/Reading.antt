@@ -15,7 +15,7 @@ use Rattle.isa.specs.declared.instruction.DoubleOperation.TheVariants.{Mov, Cmp,
 use Rattle.isa.specs.declared.instruction.Condition.{Condition}
 use Rattle.isa.specs.declared.instruction.Condition.TheVariants.{Br, Bne, Beq, Bge, Blt, Bgt, Ble, Bpl, Bmi, Bhi, Blos, Bvc, Bvs, Bcc, Bcs}
 use Rattle.isa.specs.declared.instruction.FlagChange.TheVariants.{Clear, Set}
-use Rattle.isa.specs.declared.instruction.FlagMask.{FlagMask}
+use Rattle.isa.specs.declared.flags.Flags.{Flags}
 use Rattle.isa.specs.declared.instruction.Instruction.{Instruction}
 
 -- the register of a digit: R0 to R5, SP, PC
@@ -38,7 +38,7 @@ abbrev pub offset : ℕ → ℤ
 offset w = cond (ltb (w % 0o400) 0o200) (pos (w % 0o400)) (negsuc (0o377 - w % 0o400))
 
 -- the flags that bits 3 to 0 name: N, Z, V, C
-abbrev pub mask : ℕ → FlagMask
+abbrev pub mask : ℕ → Flags
 mask w =
     record {
       n = eqb (w / 8 % 2) 1;

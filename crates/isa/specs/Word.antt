@@ -16,7 +16,7 @@ use Rattle.isa.specs.declared.instruction.Condition.{Condition}
 use Rattle.isa.specs.declared.instruction.Condition.TheVariants.{Br, Bne, Beq, Bge, Blt, Bgt, Ble, Bpl, Bmi, Bhi, Blos, Bvc, Bvs, Bcc, Bcs}
 use Rattle.isa.specs.declared.instruction.FlagChange.{FlagChange}
 use Rattle.isa.specs.declared.instruction.FlagChange.TheVariants.{Clear, Set}
-use Rattle.isa.specs.declared.instruction.FlagMask.{FlagMask}
+use Rattle.isa.specs.declared.flags.Flags.{Flags}
 use Rattle.isa.specs.declared.instruction.Instruction.{Instruction}
 
 -- R: the digit of a register
@@ -113,7 +113,7 @@ bit true = 1
 bit false = 0
 
 -- bits 3 to 0: N, Z, V, C
-abbrev pub mask_bits : FlagMask → ℕ
+abbrev pub mask_bits : Flags → ℕ
 mask_bits m = 8 * bit m.n + 4 * bit m.z + 2 * bit m.v + bit m.c
 
 -- the word of each instruction; of a count NN its six low bits

@@ -3,18 +3,13 @@ ghost use Rattle.std.specs.Prelude.{◌≡◌};
 ghost use Rattle.isa.specs.Reading.{register, mode, operand, offset, mask, double, five, low_condition, low_branch, high_condition, high_branch};
 ghost use Rattle.isa.specs.Reading.{control, returns, return_or_flags, zeros, word_sixes, byte_sixes, low, traps, high, sevens, digits, reading};
 
+use crate::flags::Flags;
 use crate::instruction::{
-    Condition, Control, DoubleOperation, FlagChange, FlagMask, Instruction, SingleOperation, Size,
+    Condition, Control, DoubleOperation, FlagChange, Instruction, SingleOperation, Size,
 };
 use crate::operand::{Operand, Register};
 
-// The instruction that a word is: each word has one.
-pub fn decode(word: u16) -> Instruction
-    ensures { result ≡ reading word }
-{
-    by_groups(word)
-}
-
+// What a digit stands for is a match here and below: nothing derives the way back from a number to its variant.
 fn register_at(digit: u16) -> Register
     ensures { result ≡ register digit }
 {
@@ -30,10 +25,12 @@ fn register_at(digit: u16) -> Register
     }
 }
 
-fn operand_at(digit: u16, register: Register) -> Operand
-    ensures { result ≡ mode digit register }
+// The operand of a mode digit and a register digit.
+fn operand_at(mode_digit: u16, register_digit: u16) -> Operand
+    ensures { result ≡ mode mode_digit (register register_digit) }
 {
-    match digit {
+    let register = register_at(register_digit);
+    match mode_digit {
         0 => Operand::Direct(register),
         1 => Operand::Deferred(register),
         2 => Operand::Increment(register),
@@ -49,7 +46,7 @@ fn operand_at(digit: u16, register: Register) -> Operand
 fn operand_in(word: u16) -> Operand
     ensures { result ≡ operand word }
 {
-    operand_at(word / 0o10 % 8, register_at(word % 8))
+    operand_at(word / 0o10 % 8, word % 8)
 }
 
 // The signed offset in the low byte of a word.
@@ -57,17 +54,6 @@ fn offset_in(word: u16) -> i8
     ensures { result ≡ offset word }
 {
     ((word % 0o400) as u8).cast_signed()
-}
-
-fn mask_in(word: u16) -> FlagMask
-    ensures { result ≡ mask word }
-{
-    FlagMask {
-        n: word / 8 % 2 == 1,
-        z: word / 4 % 2 == 1,
-        v: word / 2 % 2 == 1,
-        c: word % 2 == 1,
-    }
 }
 
 fn double_in(size: Size, operation: DoubleOperation, word: u16) -> Instruction
@@ -101,7 +87,7 @@ fn low_condition_at(step: u16) -> Condition
     ensures { result ≡ low_condition step }
 {
     match step {
-        0 | 1 => Condition::Br,
+        0..=1 => Condition::Br,
         2 => Condition::Bne,
         3 => Condition::Beq,
         4 => Condition::Bge,
@@ -171,8 +157,8 @@ fn return_or_flags_in(word: u16) -> Instruction
 {
     match word / 0o20 % 4 {
         0 => return_in(word),
-        2 => Instruction::Flags(FlagChange::Clear, mask_in(word)),
-        3 => Instruction::Flags(FlagChange::Set, mask_in(word)),
+        2 => Instruction::Flags(FlagChange::Clear, Flags::from_bits(word)),
+        3 => Instruction::Flags(FlagChange::Set, Flags::from_bits(word)),
         _ => Instruction::Reserved(word),
     }
 }
@@ -205,7 +191,7 @@ fn word_six_in(word: u16) -> Instruction
     }
 }
 
-// The words 106....
+// The words 106....: no twin of those of 006...., since MTPS and MFPS stand where MARK and SXT do there.
 fn byte_six_in(word: u16) -> Instruction
     ensures { result ≡ byte_sixes word }
 {
@@ -226,7 +212,7 @@ fn low_in(word: u16) -> Instruction
 {
     match word / 0o1000 % 8 {
         0 => zero_in(word),
-        1 | 2 | 3 => low_branch_in(word),
+        1..=3 => low_branch_in(word),
         4 => Instruction::Call(register_at(word / 0o100 % 8), operand_in(word)),
         5 => single_in(Size::Word, five_at(word / 0o100 % 8), word),
         6 => word_six_in(word),
@@ -251,7 +237,7 @@ fn high_in(word: u16) -> Instruction
     ensures { result ≡ high word }
 {
     match word / 0o1000 % 8 {
-        0 | 1 | 2 | 3 => high_branch_in(word),
+        0..=3 => high_branch_in(word),
         4 => trap_in(word),
         5 => single_in(Size::Byte, five_at(word / 0o100 % 8), word),
         6 => byte_six_in(word),
@@ -270,9 +256,10 @@ fn seven_in(word: u16) -> Instruction
     }
 }
 
-// By the first two digits.
-fn by_groups(word: u16) -> Instruction
-    ensures { result ≡ digits word }
+// The instruction that a word is, by its first two digits: each word has one.
+#[tactic(auto, unfolding(crate::specs::Reading::reading))]
+pub fn decode(word: u16) -> Instruction
+    ensures { result ≡ reading word }
 {
     match word / 0o10000 {
         0o00 => low_in(word),

@@ -11,11 +11,13 @@ impl Operand {
     pub fn takes_word(self) -> bool
         ensures { result ≡ takes_word self }
     {
-        match self {
-            Operand::Index(_) | Operand::IndexDeferred(_) => true,
-            Operand::Increment(Register::Pc) | Operand::IncrementDeferred(Register::Pc) => true,
-            _ => false,
-        }
+        matches!(
+            self,
+            Operand::Index(_)
+                | Operand::IndexDeferred(_)
+                | Operand::Increment(Register::Pc)
+                | Operand::IncrementDeferred(Register::Pc)
+        )
     }
 
     fn words(self) -> u8
@@ -33,17 +35,17 @@ impl Instruction {
         ensures bound { result ≤ 2 }
     {
         match self {
-            Instruction::Double(_, _, source, destination) => source.words() + destination.words(),
-            Instruction::Add(source, destination) => source.words() + destination.words(),
-            Instruction::Subtract(source, destination) => source.words() + destination.words(),
-            Instruction::Jump(operand) => operand.words(),
-            Instruction::SwapBytes(operand) => operand.words(),
-            Instruction::Call(_, operand) => operand.words(),
-            Instruction::Single(_, _, operand) => operand.words(),
-            Instruction::SignExtend(operand) => operand.words(),
-            Instruction::ToStatus(operand) => operand.words(),
-            Instruction::FromStatus(operand) => operand.words(),
-            Instruction::ExclusiveOr(_, operand) => operand.words(),
+            Instruction::Double(_, _, source, destination)
+            | Instruction::Add(source, destination)
+            | Instruction::Subtract(source, destination) => source.words() + destination.words(),
+            Instruction::Jump(operand)
+            | Instruction::SwapBytes(operand)
+            | Instruction::Call(_, operand)
+            | Instruction::Single(_, _, operand)
+            | Instruction::SignExtend(operand)
+            | Instruction::ToStatus(operand)
+            | Instruction::FromStatus(operand)
+            | Instruction::ExclusiveOr(_, operand) => operand.words(),
             _ => 0,
         }
     }

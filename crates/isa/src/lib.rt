@@ -3,12 +3,14 @@
 
 pub mod decoding;
 pub mod encoding;
+pub mod flags;
 pub mod further;
 pub mod instruction;
 pub mod operand;
 
 pub use decoding::decode;
 pub use encoding::encode;
+pub use flags::Flags;
 pub use instruction::{
     Condition, Control, DoubleOperation, FlagChange, FlagMask, Instruction, SingleOperation, Size,
 };

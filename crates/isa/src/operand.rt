@@ -1,7 +1,7 @@
 // Registers, and operands by their addressing mode.
 
-// The eight registers; R6 is the stack pointer SP, R7 the program counter PC.
-#[derive(Clone, Copy)]
+// The eight registers, in the order of the register digit from 0 to 7; R6 is the stack pointer SP, R7 the program counter PC.
+#[derive(Clone, Copy, PartialEq, Eq, Debug)]
 pub enum Register {
     R0,
     R1,
@@ -14,7 +14,7 @@ pub enum Register {
 }
 
 // An operand by its addressing mode, in the order of the mode digit from 0 to 7.
-#[derive(Clone, Copy)]
+#[derive(Clone, Copy, PartialEq, Eq, Debug)]
 pub enum Operand {
     Direct(Register),
     Deferred(Register),

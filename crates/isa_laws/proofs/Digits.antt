@@ -7,7 +7,7 @@ use Rattle.isa.specs.declared.operand.Operand.TheVariants.{Direct, Deferred, Inc
 use Rattle.isa.specs.Reading.{register, mode, operand, offset, mask}
 use Rattle.isa.specs.Word.{number, bits, byte, bit, mask_bits}
 use Rattle.isa_laws.specs.OneReading.{in_byte}
-use Rattle.isa.specs.declared.instruction.FlagMask.{FlagMask}
+use Rattle.isa.specs.declared.flags.Flags.{Flags}
 use Rattle.std.proofs.lemmas.Bool.Decides.{nat_tests}
 
 pub number_digit : (r : Register) → number r < 8
@@ -109,7 +109,7 @@ bit_small true = lit< tt
 bit_small false = lit< tt
 
 -- four low bits are read as their flags
-pub mask_at : (w k : ℕ) (m : FlagMask) → w ≡ 0o20 * k + mask_bits m → mask w ≡ m
+pub mask_at : (w k : ℕ) (m : Flags) → w ≡ 0o20 * k + mask_bits m → mask w ≡ m
 mask_at w k m e =
     let n = bit_small m.n in
     let z = bit_small m.z in
@@ -121,5 +121,5 @@ mask_at w k m e =
     let c_is : w % 2 ≡ bit m.c = omega arith in
     rw (bit_at _ _ n_is, bit_at _ _ z_is, bit_at _ _ v_is, bit_at _ _ c_is) refl
 
-pub mask_small : (m : FlagMask) → mask_bits m < 0o20
+pub mask_small : (m : Flags) → mask_bits m < 0o20
 mask_small m = omega (arith, bit_small m.n, bit_small m.z, bit_small m.v, bit_small m.c)

@@ -17,7 +17,7 @@ use Rattle.isa.specs.declared.instruction.Condition.{Condition}
 use Rattle.isa.specs.declared.instruction.Condition.TheVariants.{Br, Bne, Beq, Bge, Blt, Bgt, Ble, Bpl, Bmi, Bhi, Blos, Bvc, Bvs, Bcc, Bcs}
 use Rattle.isa.specs.declared.instruction.FlagChange.{FlagChange}
 use Rattle.isa.specs.declared.instruction.FlagChange.TheVariants.{Clear, Set}
-use Rattle.isa.specs.declared.instruction.FlagMask.{FlagMask}
+use Rattle.isa.specs.declared.flags.Flags.{Flags}
 use Rattle.isa.specs.declared.instruction.Instruction.{Instruction}
 use Rattle.isa.specs.Reading.{operand, offset, five, low_condition, low_branch, high_condition, high_branch, reading}
 use Rattle.isa.specs.Word.{number, bits, byte, mask_bits, size_bit, control_word, single_base, double_base, branch_base, flag_base, word}
@@ -45,7 +45,7 @@ return_said R5 = refl
 return_said Sp = refl
 return_said Pc = refl
 
-flags_said : (change : FlagChange) (m : FlagMask) → reading (flag_base change + mask_bits m) ≡ Instruction.Flags change m
+flags_said : (change : FlagChange) (m : Flags) → reading (flag_base change + mask_bits m) ≡ Instruction.Flags change m
 unfolding reading
 flags_said Clear m =
     let w = 0o000240 + mask_bits m in

@@ -8,20 +8,11 @@ mod tests {
         SingleOperation, Size, decode, encode,
     };
 
-    macro_rules! reads {
-        ($rt:ident; $word:expr, $instruction:pat) => {
-            assert!($rt; match decode($word) {
-                $instruction => true,
-                _ => false,
-            })
-        };
-    }
-
     #[test]
     fn operations_with_operands_are_read(rt: HostRuntime) {
         // MOV #n, R3
-        reads!(rt;
-            0o012703,
+        assert_eq!(rt;
+            decode(0o012703),
             Instruction::Double(
                 Size::Word,
                 DoubleOperation::Mov,
@@ -30,8 +21,8 @@ mod tests {
             )
         );
         // BICB @-(R1), 4(R2)
-        reads!(rt;
-            0o145162,
+        assert_eq!(rt;
+            decode(0o145162),
             Instruction::Double(
                 Size::Byte,
                 DoubleOperation::Bic,
@@ -40,24 +31,24 @@ mod tests {
             )
         );
         // ADD (R4), -(SP)
-        reads!(rt;
-            0o061446,
+        assert_eq!(rt;
+            decode(0o061446),
             Instruction::Add(
                 Operand::Deferred(Register::R4),
                 Operand::Decrement(Register::Sp)
             )
         );
         // SUB R2, @4(R5)
-        reads!(rt;
-            0o160275,
+        assert_eq!(rt;
+            decode(0o160275),
             Instruction::Subtract(
                 Operand::Direct(Register::R2),
                 Operand::IndexDeferred(Register::R5)
             )
         );
         // TSTB @#n
-        reads!(rt;
-            0o105737,
+        assert_eq!(rt;
+            decode(0o105737),
             Instruction::Single(
                 Size::Byte,
                 SingleOperation::Tst,
@@ -65,8 +56,8 @@ mod tests {
             )
         );
         // ASL R0
-        reads!(rt;
-            0o006300,
+        assert_eq!(rt;
+            decode(0o006300),
             Instruction::Single(
                 Size::Word,
                 SingleOperation::Asl,
@@ -74,47 +65,50 @@ mod tests {
             )
         );
         // XOR R1, (R2)+
-        reads!(rt;
-            0o074122,
+        assert_eq!(rt;
+            decode(0o074122),
             Instruction::ExclusiveOr(Register::R1, Operand::Increment(Register::R2))
         );
         // SXT R2, MTPS #n, MFPS R0
-        reads!(rt;
-            0o006702,
+        assert_eq!(rt;
+            decode(0o006702),
             Instruction::SignExtend(Operand::Direct(Register::R2))
         );
-        reads!(rt;
-            0o106427,
+        assert_eq!(rt;
+            decode(0o106427),
             Instruction::ToStatus(Operand::Increment(Register::Pc))
         );
-        reads!(rt;
-            0o106700,
+        assert_eq!(rt;
+            decode(0o106700),
             Instruction::FromStatus(Operand::Direct(Register::R0))
         );
         // SWAB R1, JMP (R3), JSR PC, n(PC)
-        reads!(rt;
-            0o000301,
+        assert_eq!(rt;
+            decode(0o000301),
             Instruction::SwapBytes(Operand::Direct(Register::R1))
         );
-        reads!(rt; 0o000113, Instruction::Jump(Operand::Deferred(Register::R3)));
-        reads!(rt;
-            0o004767,
+        assert_eq!(rt;
+            decode(0o000113),
+            Instruction::Jump(Operand::Deferred(Register::R3))
+        );
+        assert_eq!(rt;
+            decode(0o004767),
             Instruction::Call(Register::Pc, Operand::Index(Register::Pc))
         );
     }
 
     #[test]
     fn words_without_operands_are_read(rt: HostRuntime) {
-        reads!(rt; 0o000000, Instruction::Control(Control::Halt));
-        reads!(rt; 0o000006, Instruction::Control(Control::Rtt));
-        reads!(rt; 0o000207, Instruction::Return(Register::Pc));
+        assert_eq!(rt; decode(0o000000), Instruction::Control(Control::Halt));
+        assert_eq!(rt; decode(0o000006), Instruction::Control(Control::Rtt));
+        assert_eq!(rt; decode(0o000207), Instruction::Return(Register::Pc));
         // BEQ past two words, BR to itself, BCS 128 words back
-        reads!(rt; 0o001402, Instruction::Branch(Condition::Beq, 2));
-        reads!(rt; 0o000777, Instruction::Branch(Condition::Br, -1));
-        reads!(rt; 0o103600, Instruction::Branch(Condition::Bcs, -128));
+        assert_eq!(rt; decode(0o001402), Instruction::Branch(Condition::Beq, 2));
+        assert_eq!(rt; decode(0o000777), Instruction::Branch(Condition::Br, -1));
+        assert_eq!(rt; decode(0o103600), Instruction::Branch(Condition::Bcs, -128));
         // CCC, SEZ, NOP
-        reads!(rt;
-            0o000257,
+        assert_eq!(rt;
+            decode(0o000257),
             Instruction::Flags(
                 FlagChange::Clear,
                 FlagMask {
@@ -125,8 +119,8 @@ mod tests {
                 }
             )
         );
-        reads!(rt;
-            0o000264,
+        assert_eq!(rt;
+            decode(0o000264),
             Instruction::Flags(
                 FlagChange::Set,
                 FlagMask {
@@ -137,8 +131,8 @@ mod tests {
                 }
             )
         );
-        reads!(rt;
-            0o000240,
+        assert_eq!(rt;
+            decode(0o000240),
             Instruction::Flags(
                 FlagChange::Clear,
                 FlagMask {
@@ -149,16 +143,16 @@ mod tests {
                 }
             )
         );
-        reads!(rt; 0o006477, Instruction::Mark(63));
-        reads!(rt; 0o077302, Instruction::Loop(Register::R3, 2));
-        reads!(rt; 0o104377, Instruction::Emulate(255));
-        reads!(rt; 0o104400, Instruction::Trap(0));
+        assert_eq!(rt; decode(0o006477), Instruction::Mark(63));
+        assert_eq!(rt; decode(0o077302), Instruction::Loop(Register::R3, 2));
+        assert_eq!(rt; decode(0o104377), Instruction::Emulate(255));
+        assert_eq!(rt; decode(0o104400), Instruction::Trap(0));
         // both ends of gaps in the table
-        reads!(rt; 0o000007, Instruction::Reserved(0o000007));
-        reads!(rt; 0o000210, Instruction::Reserved(0o000210));
-        reads!(rt; 0o006677, Instruction::Reserved(0o006677));
-        reads!(rt; 0o075000, Instruction::Reserved(0o075000));
-        reads!(rt; 0o170000, Instruction::Reserved(0o170000));
+        assert_eq!(rt; decode(0o000007), Instruction::Reserved(0o000007));
+        assert_eq!(rt; decode(0o000210), Instruction::Reserved(0o000210));
+        assert_eq!(rt; decode(0o006677), Instruction::Reserved(0o006677));
+        assert_eq!(rt; decode(0o075000), Instruction::Reserved(0o075000));
+        assert_eq!(rt; decode(0o170000), Instruction::Reserved(0o170000));
     }
 
     #[test]
