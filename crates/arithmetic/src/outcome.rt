@@ -2,23 +2,23 @@
 ghost use Rattle.std.specs.Prelude.{◌≡◌};
 ghost use Rattle.arithmetic.specs.Outcomes.{flagged, result as resulting, logical, flags_only};
 
-use crate::width;
-use isa::{Flags, Size};
+use crate::width::Number;
+use isa::Flags;
 
 // The result, `None` for an operation that only sets flags, and the flags afterwards.
-#[derive(Clone, Copy)]
+#[derive(Clone, Copy, PartialEq, Eq, Debug)]
 pub struct Outcome {
     pub value: Option<u16>,
     pub flags: Flags,
 }
 
 // N and Z as they follow from a result, with these V and C.
-pub(crate) fn flags_after(size: Size, value: u16, v: bool, c: bool) -> Flags
-    ensures { result ≡ flagged size value v c }
+pub(crate) fn flags_after(number: Number, v: bool, c: bool) -> Flags
+    ensures { result ≡ flagged number.size number.value v c }
 {
     Flags {
-        n: width::is_negative(size, value),
-        z: value == 0,
+        n: number.is_negative(),
+        z: number.value == 0,
         v,
         c,
     }
@@ -26,29 +26,29 @@ pub(crate) fn flags_after(size: Size, value: u16, v: bool, c: bool) -> Flags
 
 impl Outcome {
     // A result with its flags.
-    pub(crate) fn with_result(size: Size, value: u16, v: bool, c: bool) -> Outcome
-        ensures { result ≡ resulting size value v c }
+    pub(crate) fn with_result(number: Number, v: bool, c: bool) -> Outcome
+        ensures { result ≡ resulting number.size number.value v c }
     {
         Outcome {
-            value: Some(value),
-            flags: flags_after(size, value, v, c),
+            value: Some(number.value),
+            flags: flags_after(number, v, c),
         }
     }
 
     // A result of an operation on single bits: no overflow, the carry kept.
-    pub(crate) fn logical(size: Size, value: u16, c: bool) -> Outcome
-        ensures { result ≡ logical size value c }
+    pub(crate) fn logical(number: Number, c: bool) -> Outcome
+        ensures { result ≡ logical number.size number.value c }
     {
-        Outcome::with_result(size, value, false, c)
+        Outcome::with_result(number, false, c)
     }
 
     // The flags of a result that is not kept.
-    pub(crate) fn flags_only(size: Size, value: u16, v: bool, c: bool) -> Outcome
-        ensures { result ≡ flags_only size value v c }
+    pub(crate) fn flags_only(number: Number, v: bool, c: bool) -> Outcome
+        ensures { result ≡ flags_only number.size number.value v c }
     {
         Outcome {
             value: None,
-            flags: flags_after(size, value, v, c),
+            flags: flags_after(number, v, c),
         }
     }
 }

@@ -1,12 +1,12 @@
 // Numbers of the two sizes: how many there are, and which have the sign.
-ghost use Rattle.std.specs.Prelude.{◌≡◌, ◌%◌, ◌<◌, ◌≤◌, pos, neg_ℤ, ◌≤ℤ◌, ◌<ℤ◌, bit_or};
+ghost use Rattle.std.specs.Prelude.{◌≡◌, ◌+◌, ◌-◌, ◌%◌, ◌<◌, ◌≤◌, bit_and};
 ghost use Rattle.isa.specs.declared.instruction.Size.TheVariants.{Word};
-ghost use Rattle.arithmetic.specs.Widths.{span, negative, joined, standing};
+ghost use Rattle.arithmetic.specs.Widths.{span, negative};
 
 use isa::Size;
 
 // How many numbers there are of a size.
-pub(crate) fn span_of(size: Size) -> u32
+fn span_of(size: Size) -> u32
     ensures value { result ≡ span size }
     ensures bound { result ≤ 65536 }
 {
@@ -16,52 +16,93 @@ pub(crate) fn span_of(size: Size) -> u32
     }
 }
 
-// What a place of this size holds of a number: its low bits.
-pub(crate) fn reduced(size: Size, number: u32) -> u16
-    ensures value { result ≡ number % span size }
-    ensures below { result < span size }
-{
-    match size {
-        Size::Word => (number % 65536) as u16,
-        Size::Byte => (number % 256) as u16,
+// A number that a place of a size holds.
+#[derive(Clone, Copy)]
+pub(crate) struct Number {
+    pub(crate) size: Size,
+    pub(crate) value: u16,
+    ghost below: { value < span size },
+}
+
+impl Number {
+    // What a place of this size holds of a number: its low bits.
+    pub(crate) fn of(size: Size, number: u32) -> Number
+        ensures size { result.size ≡ size }
+        ensures value { result.value ≡ number % span size }
+    {
+        Number {
+            size,
+            value: (number % span_of(size)) as u16,
+        }
     }
-}
 
-// Whether the sign bit is set.
-pub(crate) fn is_negative(size: Size, number: u16) -> bool
-    ensures { result ≡ negative size number }
-{
-    match size {
-        Size::Word => number >= 0o100000,
-        Size::Byte => number >= 0o200,
+    // A word.
+    pub(crate) fn word(value: u16) -> Number
+        ensures size { result.size ≡ Word }
+        ensures value { result.value ≡ value }
+    {
+        Number {
+            size: Size::Word,
+            value,
+        }
     }
-}
 
-// The word of a high and a low byte.
-pub(crate) fn join(high: u16, low: u16) -> u16
-    requires { (high < 256) × (low < 256) }
-    ensures { result ≡ joined high low }
-{
-    high * 256 + low
-}
-
-// The word that stands for a signed number that a word can stand for.
-pub(crate) fn word_standing_for(number: i32) -> u16
-    requires { (neg_ℤ (pos 0o100000) ≤ℤ number) × (number <ℤ pos 0o100000) }
-    ensures { result ≡ standing Word number }
-{
-    if number < 0 {
-        (number + 65536) as u16
-    } else {
-        number as u16
+    // What a place of its size holds of another number.
+    pub(crate) fn with(self, number: u32) -> Number
+        ensures size { result.size ≡ self.size }
+        ensures value { result.value ≡ number % span self.size }
+    {
+        Number::of(self.size, number)
     }
-}
 
-// The bits of two numbers of this size.
-pub(crate) fn joined_bits(size: Size, a: u16, b: u16) -> u16
-    requires { (a < span size) × (b < span size) }
-    ensures value { result ≡ bit_or a b }
-    ensures below { result < span size }
-{
-    a | b
+    // How many numbers there are of its size.
+    pub(crate) fn span(self) -> u32
+        ensures value { result ≡ span self.size }
+        ensures bound { result ≤ 65536 }
+    {
+        span_of(self.size)
+    }
+
+    // Whether the sign bit is set.
+    pub(crate) fn is_negative(self) -> bool
+        ensures { result ≡ negative self.size self.value }
+    {
+        self.value as u32 >= self.span() / 2
+    }
+
+    // So much more, around the end of the numbers of its size.
+    pub(crate) fn plus(self, more: u16) -> Number
+        ensures size { result.size ≡ self.size }
+        ensures value { result.value ≡ (self.value + more) % span self.size }
+    {
+        self.with(self.value as u32 + more as u32)
+    }
+
+    // So much less, around the end of the numbers of its size.
+    pub(crate) fn minus(self, less: u16) -> Number
+        requires { less ≤ span self.size }
+        ensures size { result.size ≡ self.size }
+        ensures value { result.value ≡ (self.value + (span self.size - less)) % span self.size }
+    {
+        self.with(self.value as u32 + (self.span() - less as u32))
+    }
+
+    // Every bit turned.
+    pub(crate) fn turned(self) -> Number
+        ensures size { result.size ≡ self.size }
+        ensures value { result.value ≡ span self.size - 1 - self.value }
+    {
+        self.with(!self.value as u32)
+    }
+
+    // The bits that a mask has too.
+    pub(crate) fn masked(self, mask: u16) -> Number
+        ensures size { result.size ≡ self.size }
+        ensures value { result.value ≡ bit_and self.value mask }
+    {
+        Number {
+            size: self.size,
+            value: self.value & mask,
+        }
+    }
 }

@@ -1,53 +1,53 @@
 // The operations that exist for words alone.
 ghost use Rattle.std.specs.Prelude.{◌≡◌};
-ghost use Rattle.arithmetic.specs.Words.{add_outcome, subtract_outcome, exclusive_or_outcome, swap_outcome, all_bits, extend_outcome};
+ghost use Rattle.arithmetic.specs.Words.{add_outcome, subtract_outcome, exclusive_or_outcome, swap_outcome, extend_outcome};
 
 use crate::outcome::{Outcome, flags_after};
-use crate::{sums, width};
+use crate::sums::Pair;
+use crate::width::Number;
 use isa::{Flags, Size};
 
 // ADD: source plus destination.
+#[tactic(auto, unfolding(crate::specs::Words::add_outcome))]
 pub fn add(source: u16, destination: u16) -> Outcome
     ensures { result ≡ add_outcome source destination }
 {
-    sums::sum(Size::Word, source, destination)
+    Pair::of(Size::Word, source, destination).sum()
 }
 
 // SUB: destination minus source.
+#[tactic(auto, unfolding(crate::specs::Words::subtract_outcome))]
 pub fn subtract(source: u16, destination: u16) -> Outcome
     ensures { result ≡ subtract_outcome source destination }
 {
-    sums::difference(Size::Word, destination, source)
+    Pair::of(Size::Word, destination, source).difference()
 }
 
 // XOR: the bits in which source and destination differ.
+#[tactic(auto, unfolding(crate::specs::Words::exclusive_or_outcome))]
 pub fn exclusive_or(source: u16, destination: u16, flags: Flags) -> Outcome
     ensures { result ≡ exclusive_or_outcome source destination flags }
 {
-    Outcome::logical(Size::Word, source ^ destination, flags.c)
+    Outcome::logical(Number::word(source ^ destination), flags.c)
 }
 
 // SWAB: the two bytes exchanged; N and Z by the low byte of the result.
+#[tactic(auto, unfolding(crate::specs::Words::swap_outcome))]
 pub fn swap_bytes(operand: u16) -> Outcome
     ensures { result ≡ swap_outcome operand }
 {
-    let low = operand / 256;
+    let swapped = operand.swap_bytes();
     Outcome {
-        value: Some(width::join(operand % 256, low)),
-        flags: flags_after(Size::Byte, low, false, false),
+        value: Some(swapped),
+        flags: flags_after(Number::of(Size::Byte, swapped as u32), false, false),
     }
 }
 
-// A word with this bit in every place.
-fn filled_with(bit: bool) -> u16
-    ensures { result ≡ all_bits bit }
-{
-    if bit { 0o177777 } else { 0 }
-}
-
 // SXT: the flag N in every bit.
+#[tactic(auto, unfolding(crate::specs::Words::extend_outcome))]
 pub fn sign_extend(flags: Flags) -> Outcome
     ensures { result ≡ extend_outcome flags }
 {
-    Outcome::logical(Size::Word, filled_with(flags.n), flags.c)
+    let value = if flags.n { 0o177777 } else { 0 };
+    Outcome::logical(Number::word(value), flags.c)
 }
