@@ -13,11 +13,7 @@ fn run(rt: &HostRuntime) -> anyhow::Result<()> {
     for line in rt.lines(rt.alloc()) {
         let line = line?;
         rows = rows.saturating_add(1);
-        let agrees = match Row::parse(line.as_str()) {
-            Some(row) => row.agrees(),
-            None => false,
-        };
-        if !agrees {
+        if !Row::parse(line.as_str()).is_some_and(|row| row.agrees()) {
             mismatches = mismatches.saturating_add(1);
             println!(rt; "otherwise: {line}")?;
         }

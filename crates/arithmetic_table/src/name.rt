@@ -93,23 +93,18 @@ fn other_named(name: &str) -> Option<Operation> {
 
 // An operation of words, or of bytes where a B follows its name.
 fn sized_named(stem: &str, size: Size) -> Option<Operation> {
-    if let Some(operation) = single_named(stem) {
-        return Some(Operation::Single(operation, size));
-    }
-    Some(Operation::Double(double_named(stem)?, size))
+    single_named(stem)
+        .map(|operation| Operation::Single(operation, size))
+        .or_else(|| double_named(stem).map(|operation| Operation::Double(operation, size)))
 }
 
 impl Operation {
     pub(crate) fn named(name: &str) -> Option<Operation> {
-        if let Some(operation) = other_named(name) {
-            return Some(operation);
-        }
-        if let Some(condition) = condition_named(name) {
-            return Some(Operation::Branch(condition));
-        }
-        match name.strip_suffix('B') {
-            Some(stem) => sized_named(stem, Size::Byte),
-            None => sized_named(name, Size::Word),
-        }
+        other_named(name)
+            .or_else(|| condition_named(name).map(Operation::Branch))
+            .or_else(|| match name.strip_suffix('B') {
+                Some(stem) => sized_named(stem, Size::Byte),
+                None => sized_named(name, Size::Word),
+            })
     }
 }

@@ -22,14 +22,6 @@ fn binary(field: &str) -> Option<u16> {
     u16::from_str_radix(field, 2).ok()
 }
 
-// A result in octal, or `none`.
-fn result_of(field: &str) -> Option<Option<u16>> {
-    if field == "none" {
-        return Some(None);
-    }
-    Some(Some(octal(field)?))
-}
-
 fn change_of(word: u16) -> FlagChange {
     if word >= 0o260 {
         FlagChange::Set
@@ -47,13 +39,17 @@ fn plain(value: u16, flags: Flags) -> Outcome {
 }
 
 impl Row {
+    // The row that a line is, its result in octal or `none`. No FromStr, here or for names: nothing asks why a line is no row.
     pub(crate) fn parse(line: &str) -> Option<Row> {
         let mut fields = line.split_whitespace();
         let operation = Operation::named(fields.next()?)?;
         let source = octal(fields.next()?)?;
         let destination = octal(fields.next()?)?;
         let old = binary(fields.next()?)?;
-        let result = result_of(fields.next()?)?;
+        let result = match fields.next()? {
+            "none" => None,
+            field => Some(octal(field)?),
+        };
         let flags = binary(fields.next()?)?;
         Some(Row {
             operation,
@@ -98,18 +94,11 @@ impl Row {
                 ),
             },
             Operation::Branch(condition) => {
-                plain(
-                    if arithmetic::taken(condition, old) {
-                        1
-                    } else {
-                        0
-                    },
-                    old,
-                )
+                plain(u16::from(arithmetic::taken(condition, old)), old)
             }
             Operation::Spread => plain(arithmetic::sign_spread(self.source), old),
             Operation::Distance => {
-                let offset = (self.source % 256) as u8;
+                let [offset, _] = self.source.to_le_bytes();
                 plain(arithmetic::branch_distance(offset.cast_signed()), old)
             }
         }
