@@ -1,7 +1,9 @@
 -- A test of every number of k bits, computed by halves.
-use Rattle.std.proofs.Common.{◌≡◌, ℕ, zero, suc, ◌+◌, ◌*◌, ◌^◌, ◌<◌, ◌≤◌, Bool, true, false, sym, refl, ◌∙◌, subst, mul_assoc, add-mul, one-mul, pow-suc, zero-mul, add-one, arith}
+use Rattle.std.proofs.lemmas.List.{map-id}
+use Rattle.std.proofs.lemmas.List.FromFn.{sum_by-map-range_with_len_more, fill_by_all}
+use Rattle.std.specs.List.{range_with_len}
+use Rattle.std.proofs.Common.{List, length, get_or, count_by, cond, ap, ◌≡◌, ℕ, zero, suc, ◌+◌, ◌*◌, ◌^◌, ◌<◌, ◌≤◌, Bool, true, false, sym, refl, ◌∙◌, subst, mul_assoc, add-mul, one-mul, pow-suc, zero-mul, arith}
 use native.Mathlib.Decide.{dec_lt}
-use Rattle.isa.specs.Word.{bit}
 use Rattle.isa_laws.specs.OneReading.{how_many}
 
 -- whether the numbers of k more bits behind b all pass
@@ -11,7 +13,7 @@ all test (suc k) b = elim (all test k (2 * b)) [ true ↦ all test k (2 * b + 1)
 
 -- how many of them pass
 abbrev pub passing : (ℕ → Bool) → ℕ → ℕ → ℕ
-passing test zero b = bit (test b)
+passing test zero b = cond (test b) 1 0
 passing test (suc k) b = passing test k (2 * b) + passing test k (2 * b + 1)
 
 pub both : (a b : Bool) → elim a as (λ _. Bool) [ true ↦ b | false ↦ false ] ≡ true → (a ≡ true) × (b ≡ true)
@@ -48,14 +50,18 @@ passes test (suc k) b h n lo hi =
 pub every : (test : ℕ → Bool) (k : ℕ) → all test k 0 ≡ true → (n : ℕ) → n < 2 ^ k → test n ≡ true
 every test k h n lt = passes test k 0 h n (rw zero-mul (omega arith)) (rw one-mul (omega arith))
 
+-- one number more
+more : (test : ℕ → Bool) (n : ℕ) → how_many test (n + 1) ≡ how_many test n + cond (test n) 1 0
+unfolding how_many
+more test n = simp map-id at (sum_by-map-range_with_len_more (λ x. cond (test x) 1 0) (λ x. x) 0 n n (omega arith))
+
 counted
     : (test : ℕ → Bool) (k b lo hi : ℕ) → lo ≡ b * 2 ^ k → hi ≡ (b + 1) * 2 ^ k →
     how_many test hi ≡ passing test k b + how_many test lo
-unfolding how_many
 counted test zero b lo hi p q =
     let l : lo ≡ b = omega arith in
-    let h : hi ≡ suc b = omega arith in
-    rw (l, h) refl
+    let h : hi ≡ b + 1 = omega arith in
+    rw (l, h) (omega (arith, more test b))
 counted test (suc k) b lo hi p q =
     let t = halves k b in
     let middle = (2 * b + 1) * 2 ^ k in
@@ -65,14 +71,16 @@ counted test (suc k) b lo hi p q =
       counted test k (2 * b + 1) middle hi refl (q ∙ t.high),
     )
 
-pub none : (test : ℕ → Bool) → how_many test 0 ≡ 0
+none : (test : ℕ → Bool) → how_many test 0 ≡ 0
 unfolding how_many
 none test = refl
 
--- one number more
-pub more : (test : ℕ → Bool) (n : ℕ) → how_many test (n + 1) ≡ bit (test n) + how_many test n
+-- a list of the numbers below n has as many that pass
+pub counted_in
+    : (test : ℕ → Bool) (xs : List ℕ) (n : ℕ) → length xs ≡ n → ((k : ℕ) → k < n → get_or xs k 0 ≡ k) →
+    count_by test xs ≡ how_many test n
 unfolding how_many
-more test n = rw add-one refl
+counted_in test xs n long places = ap (count_by test) (fill_by_all (λ k. k) xs n 0 long places ∙ map-id (range_with_len 0 n))
 
 -- what is counted by halves is how many pass
 pub how_many_lem : (test : ℕ → Bool) (k : ℕ) → how_many test (2 ^ k) ≡ passing test k 0

@@ -1,8 +1,9 @@
 -- Reading against the instruction table: which instruction has a word, and how many words none has.
-use Rattle.std.specs.Prelude.{◌≡◌, ℕ, zero, suc, ◌+◌, ◌<◌, Bool, true, false, ◌⊎◌, ℤ, pos, negsuc, nat_lt}
+use Rattle.std.specs.Prelude.{◌≡◌, ℕ, ◌<◌, Bool, true, false, ◌⊎◌, ℤ, pos, negsuc, nat_lt, count_by}
+use Rattle.std.specs.List.{range_with_len}
 use Rattle.isa.specs.declared.instruction.Instruction.{Instruction}
 use Rattle.isa.specs.Reading.{reading}
-use Rattle.isa.specs.Word.{word, bit}
+use Rattle.isa.specs.Word.{word}
 
 -- a number of eight bits with its sign
 abbrev pub in_byte : ℤ → Bool
@@ -79,5 +80,4 @@ reserved_word w = is_reserved (reading w)
 
 -- how many numbers below n pass a test
 unfoldable pub how_many : (ℕ → Bool) → ℕ → ℕ
-how_many test zero = 0
-how_many test (suc n) = bit (test n) + how_many test n
+how_many test n = count_by test (range_with_len 0 n)

@@ -6,26 +6,17 @@ ghost use Rattle.isa_laws.specs.OneReading.{WordsHaveOneReading, reserved_word, 
 
 use isa::{Instruction, decode};
 
-const WORDS: u32 = 0o200000;
-
 // How many of the 65,536 words are reserved. Each of the others has one instruction of the table, which is its reading.
 pub fn reserved_words() -> u32
     ensures counted { result ≡ how_many reserved_word 0o200000 }
     ensures number { result ≡ 8529 }
     ensures words_have_one_reading { WordsHaveOneReading }
 {
-    let mut count = 0;
-    for word in 0..WORDS {
-        count += u32::from(is_reserved(word as u16));
-    }
-    count
+    (0..=u16::MAX).filter(|word| is_reserved(*word)).count() as u32
 }
 
 fn is_reserved(word: u16) -> bool
     ensures { result ≡ reserved_word word }
 {
-    match decode(word) {
-        Instruction::Reserved(_) => true,
-        _ => false,
-    }
+    matches!(decode(word), Instruction::Reserved(_))
 }
