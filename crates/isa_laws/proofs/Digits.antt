@@ -11,24 +11,10 @@ use Rattle.isa.specs.declared.flags.Flags.{Flags}
 use Rattle.std.proofs.lemmas.Bool.Decides.{nat_tests}
 
 pub number_digit : (r : Register) → number r < 8
-number_digit R0 = lit< tt
-number_digit R1 = lit< tt
-number_digit R2 = lit< tt
-number_digit R3 = lit< tt
-number_digit R4 = lit< tt
-number_digit R5 = lit< tt
-number_digit Sp = lit< tt
-number_digit Pc = lit< tt
+number_digit r = grind arith
 
 register_number : (r : Register) → register (number r) ≡ r
-register_number R0 = refl
-register_number R1 = refl
-register_number R2 = refl
-register_number R3 = refl
-register_number R4 = refl
-register_number R5 = refl
-register_number Sp = refl
-register_number Pc = refl
+register_number r = grind arith
 
 -- a register digit is read as its register
 pub register_at : (digit : ℕ) (r : Register) → digit ≡ number r → register digit ≡ r
@@ -53,14 +39,7 @@ operand_at w k (Index r) e = mode_at w k 6 r (lit< tt) (omega arith)
 operand_at w k (IndexDeferred r) e = mode_at w k 7 r (lit< tt) (omega arith)
 
 pub bits_small : (d : Operand) → bits d < 0o100
-bits_small (Direct r) = omega (arith, number_digit r)
-bits_small (Deferred r) = omega (arith, number_digit r)
-bits_small (Increment r) = omega (arith, number_digit r)
-bits_small (IncrementDeferred r) = omega (arith, number_digit r)
-bits_small (Decrement r) = omega (arith, number_digit r)
-bits_small (DecrementDeferred r) = omega (arith, number_digit r)
-bits_small (Index r) = omega (arith, number_digit r)
-bits_small (IndexDeferred r) = omega (arith, number_digit r)
+bits_small d = grind (arith, number_digit)
 
 -- the digits of a word before the two last, its first two as one number
 pub record Digits (w a b c : ℕ) : Type 0 where

@@ -1,5 +1,5 @@
 -- What is computed of the readings of all words.
-use Rattle.std.proofs.Common.{◌≡◌, ℕ, ◌^◌, ◌<◌, Bool, true, false, eqb, ◌⊎◌, sym, refl, ap, ◌∙◌, inl, inr, eqb-true}
+use Rattle.std.proofs.Common.{rules, ◌≡◌, ℕ, ◌^◌, ◌<◌, Bool, true, false, eqb, ◌⊎◌, sym, refl, ap, ◌∙◌, inl, inr, eqb-true}
 use Rattle.isa.specs.declared.instruction.Instruction.{Instruction}
 use Rattle.isa.specs.Reading.{reading}
 use Rattle.isa.specs.Word.{word}
@@ -24,26 +24,7 @@ unfolding reading
 passing_reserved = refl
 
 is_reserved_lem : (i : Instruction) (w : ℕ) → is_reserved i ≡ true → word i ≡ w → i ≡ Instruction.Reserved w
-is_reserved_lem (Instruction.Control c) w h e = cc
-is_reserved_lem (Instruction.Jump d) w h e = cc
-is_reserved_lem (Instruction.Return r) w h e = cc
-is_reserved_lem (Instruction.Flags change m) w h e = cc
-is_reserved_lem (Instruction.SwapBytes d) w h e = cc
-is_reserved_lem (Instruction.Branch c z) w h e = cc
-is_reserved_lem (Instruction.Call r d) w h e = cc
-is_reserved_lem (Instruction.Single size o d) w h e = cc
-is_reserved_lem (Instruction.Mark n) w h e = cc
-is_reserved_lem (Instruction.SignExtend d) w h e = cc
-is_reserved_lem (Instruction.ToStatus s) w h e = cc
-is_reserved_lem (Instruction.FromStatus d) w h e = cc
-is_reserved_lem (Instruction.Double size o s d) w h e = cc
-is_reserved_lem (Instruction.Add s d) w h e = cc
-is_reserved_lem (Instruction.Subtract s d) w h e = cc
-is_reserved_lem (Instruction.ExclusiveOr r d) w h e = cc
-is_reserved_lem (Instruction.Loop r n) w h e = cc
-is_reserved_lem (Instruction.Emulate n) w h e = cc
-is_reserved_lem (Instruction.Trap n) w h e = cc
-is_reserved_lem (Instruction.Reserved v) w h e = ap Instruction.Reserved e
+is_reserved_lem i w h e = grind rules
 
 -- what is tested of one reading
 told
