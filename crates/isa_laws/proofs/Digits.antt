@@ -1,7 +1,6 @@
 -- The digits of a word that is written as a base and fields.
 use Rattle.std.proofs.Common.{◌≡◌, ℕ, ◌+◌, ◌-◌, ◌*◌, ◌/◌, ◌%◌, ◌<◌, Bool, true, false, eqb, ltb, ℤ, pos, negsuc, refl, ap, ◌∙◌, arith, lit<, ltb-true}
 use Rattle.isa.specs.declared.operand.Register.{Register}
-use Rattle.isa.specs.declared.operand.Register.TheVariants.{R0, R1, R2, R3, R4, R5, Sp, Pc}
 use Rattle.isa.specs.declared.operand.Operand.{Operand}
 use Rattle.isa.specs.declared.operand.Operand.TheVariants.{Direct, Deferred, Increment, IncrementDeferred, Decrement, DecrementDeferred, Index, IndexDeferred}
 use Rattle.isa.specs.Reading.{register, mode, operand, offset, mask}
@@ -80,12 +79,10 @@ branching_of k z h =
     record { step = omega arith; said = offset_at (0o400 * k + byte z) k z h refl }
 
 bit_at : (x : ℕ) (b : Bool) → x ≡ bit b → eqb x 1 ≡ b
-bit_at x true e = rw e refl
-bit_at x false e = rw e refl
+bit_at x b e = grind arith
 
 pub bit_small : (b : Bool) → bit b < 2
-bit_small true = lit< tt
-bit_small false = lit< tt
+bit_small b = grind arith
 
 -- four low bits are read as their flags
 pub mask_at : (w k : ℕ) (m : Flags) → w ≡ 0o20 * k + mask_bits m → mask w ≡ m

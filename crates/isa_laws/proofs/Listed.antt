@@ -8,7 +8,6 @@ use Rattle.isa.specs.declared.operand.Operand.{Operand}
 use Rattle.isa.specs.declared.instruction.Size.{Size}
 use Rattle.isa.specs.declared.instruction.Size.TheVariants.{Word, Byte}
 use Rattle.isa.specs.declared.instruction.Control.{Control}
-use Rattle.isa.specs.declared.instruction.Control.TheVariants.{Halt, Wait, Rti, Bpt, Iot, Reset, Rtt}
 use Rattle.isa.specs.declared.instruction.SingleOperation.{SingleOperation}
 use Rattle.isa.specs.declared.instruction.SingleOperation.TheVariants.{Clr, Com, Inc, Dec, Neg, Adc, Sbc, Tst, Ror, Rol, Asr, Asl}
 use Rattle.isa.specs.declared.instruction.DoubleOperation.{DoubleOperation}
@@ -26,13 +25,7 @@ use Rattle.isa_laws.proofs.Digits.{number_digit, register_at, operand_at, bits_s
 
 control_said : (c : Control) → reading (control_word c) ≡ Instruction.Control c
 unfolding reading
-control_said Halt = refl
-control_said Wait = refl
-control_said Rti = refl
-control_said Bpt = refl
-control_said Iot = refl
-control_said Reset = refl
-control_said Rtt = refl
+control_said c = grind arith
 
 return_said : (r : Register) → reading (0o000200 + number r) ≡ Instruction.Return r
 unfolding reading

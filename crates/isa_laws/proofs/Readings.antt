@@ -1,5 +1,5 @@
 -- What is computed of the readings of all words.
-use Rattle.std.proofs.Common.{rules, ◌≡◌, ℕ, ◌^◌, ◌<◌, Bool, true, false, eqb, ◌⊎◌, sym, refl, ap, ◌∙◌, inl, inr, eqb-true}
+use Rattle.std.proofs.Common.{rules, ◌≡◌, ℕ, ◌^◌, ◌<◌, Bool, true, false, eqb, ◌⊎◌, sym, refl, ◌∙◌, inl, inr, eqb-true}
 use Rattle.isa.specs.declared.instruction.Instruction.{Instruction}
 use Rattle.isa.specs.Reading.{reading}
 use Rattle.isa.specs.Word.{word}
