@@ -159,36 +159,43 @@ mod tests {
     fn instructions_are_written(rt: HostRuntime) {
         let source = Operand::IndexDeferred(Register::Sp);
         let destination = Operand::Decrement(Register::R1);
-        assert!(rt;
-            encode(Instruction::Double(Size::Word, DoubleOperation::Cmp, source, destination))
-                == 0o027641
+        assert_eq!(rt;
+            encode(Instruction::Double(Size::Word, DoubleOperation::Cmp, source, destination)),
+            0o027641
         );
-        assert!(rt;
-            encode(Instruction::Single(Size::Byte, SingleOperation::Neg, destination)) == 0o105441
+        assert_eq!(rt;
+            encode(Instruction::Single(Size::Byte, SingleOperation::Neg, destination)),
+            0o105441
         );
-        assert!(rt; encode(Instruction::Branch(Condition::Blos, -3)) == 0o101775);
-        assert!(rt; encode(Instruction::Subtract(destination, source)) == 0o164176);
+        assert_eq!(rt; encode(Instruction::Branch(Condition::Blos, -3)), 0o101775);
+        assert_eq!(rt;
+            encode(Instruction::Subtract(destination, source)),
+            0o164176
+        );
         let overflow = FlagMask {
             n: false,
             z: false,
             v: true,
             c: false,
         };
-        assert!(rt; encode(Instruction::Flags(FlagChange::Set, overflow)) == 0o000262);
-        assert!(rt; encode(Instruction::Loop(Register::R5, 65)) == 0o077501);
-        assert!(rt; encode(Instruction::Mark(64)) == 0o006400);
-        assert!(rt; encode(Instruction::Reserved(0o000010)) == 0o000010);
+        assert_eq!(rt;
+            encode(Instruction::Flags(FlagChange::Set, overflow)),
+            0o000262
+        );
+        assert_eq!(rt; encode(Instruction::Loop(Register::R5, 65)), 0o077501);
+        assert_eq!(rt; encode(Instruction::Mark(64)), 0o006400);
+        assert_eq!(rt; encode(Instruction::Reserved(0o000010)), 0o000010);
     }
 
     #[test]
     fn further_words_are_counted(rt: HostRuntime) {
         // MOV #n, @#n; CLR n(R1); TST -(PC); MOV R1, (R2)+; BR; JMP (PC)+
-        assert!(rt; decode(0o012737).further_words() == 2);
-        assert!(rt; decode(0o005061).further_words() == 1);
-        assert!(rt; decode(0o005747).further_words() == 0);
-        assert!(rt; decode(0o010122).further_words() == 0);
-        assert!(rt; decode(0o000400).further_words() == 0);
-        assert!(rt; decode(0o000127).further_words() == 1);
+        assert_eq!(rt; decode(0o012737).further_words(), 2);
+        assert_eq!(rt; decode(0o005061).further_words(), 1);
+        assert_eq!(rt; decode(0o005747).further_words(), 0);
+        assert_eq!(rt; decode(0o010122).further_words(), 0);
+        assert_eq!(rt; decode(0o000400).further_words(), 0);
+        assert_eq!(rt; decode(0o000127).further_words(), 1);
         assert!(rt; Operand::IncrementDeferred(Register::Pc).takes_word());
         assert!(rt; !Operand::IncrementDeferred(Register::Sp).takes_word());
     }
@@ -196,17 +203,16 @@ mod tests {
     // The sums were counted by a program of another make.
     #[test]
     fn all_words_are_read_and_written_back(rt: HostRuntime) {
-        let mut reserved: u32 = 0;
-        let mut further: u32 = 0;
         for word in 0..=u16::MAX {
-            let instruction = decode(word);
-            assert!(rt; encode(instruction) == word);
-            further = further.wrapping_add(u32::from(instruction.further_words()));
-            if let Instruction::Reserved(_) = instruction {
-                reserved = reserved.wrapping_add(1);
-            }
+            assert_eq!(rt; encode(decode(word)), word);
         }
-        assert!(rt; reserved == 8529);
-        assert!(rt; further == 28458);
+        let reserved = (0..=u16::MAX)
+            .filter(|word| matches!(decode(*word), Instruction::Reserved(_)))
+            .count();
+        let further = (0..=u16::MAX)
+            .map(|word| u32::from(decode(word).further_words()))
+            .fold(0, u32::wrapping_add);
+        assert_eq!(rt; reserved, 8529);
+        assert_eq!(rt; further, 28458);
     }
 }
