@@ -53,14 +53,9 @@ fn print_part(rt: &HostRuntime, image: &Image, part: Part) -> Result<(), Fault> 
 
 fn run(rt: &HostRuntime) -> Result<(), Fault> {
     let part = asked_part(rt)?;
-    let bytes = match fs::read(rt, "board.img") {
-        Ok(bytes) => bytes,
-        Err(error) => return Err(Fault::Unreadable(error)),
-    };
-    match image_of(bytes.as_slice()) {
-        Ok(image) => print_part(rt, image, part),
-        Err(refusal) => Err(Fault::Refused(refusal, bytes.len())),
-    }
+    let bytes = fs::read(rt, "board.img").map_err(Fault::Unreadable)?;
+    let image = image_of(bytes.as_slice()).map_err(|refusal| Fault::Refused(refusal, bytes.len()))?;
+    print_part(rt, image, part)
 }
 
 fn main(rt: HostRuntime) -> ExitCode {

@@ -1,5 +1,6 @@
 -- Numbers that are written in digits of a base.
-use Rattle.std.specs.Prelude.{ℕ, ◌+◌, ◌-◌, ◌*◌, Bool, true, cond, ◌&&◌, List, [], ◌∷◌, length, Some, None, Option, nat_le, nat_lt}
+use Rattle.std.specs.Prelude.{ℕ, ◌+◌, ◌-◌, ◌*◌, Bool, cond, ◌&&◌, List, [], ◌∷◌, length, Some, None, Option, nat_le, nat_lt}
+use Rattle.std.specs.List.{list_all}
 
 -- a byte is a digit of the base: '0' is 48
 abbrev pub digit : ℕ → ℕ → Bool
@@ -7,8 +8,7 @@ digit base c = nat_le 48 c && nat_lt (c - 48) base
 
 -- each byte is
 abbrev pub digits : ℕ → List ℕ → Bool
-digits base [] = true
-digits base (c ∷ cs) = digit base c && digits base cs
+digits base text = list_all (digit base) text
 
 -- one digit or more, and nothing else
 abbrev pub numeral : ℕ → List ℕ → Bool

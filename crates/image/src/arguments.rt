@@ -3,31 +3,37 @@ ghost use Rattle.std.specs.Prelude.{◌≡◌};
 ghost use Rattle.image.specs.Arguments.{address_in, count_in};
 
 use crate::numerals::{is_numeral, value};
+use thiserror::Error;
 
-const OCTAL: u8 = 8;
+const OCTAL: u32 = 8;
 
-const DECIMAL: u8 = 10;
+const DECIMAL: u32 = 10;
 
 // The most instructions that are asked for at once: as many as an image has words.
 pub const MOST_INSTRUCTIONS: u16 = 32_768;
 
 // Why a text is no address of an instruction; asked in this order.
-#[derive(Clone, Copy)]
+#[derive(Clone, Copy, Debug, Error)]
 pub enum AddressFault {
     // It is empty, or has another character than the digits 0 to 7.
+    #[error("the address is not octal")]
     NotOctal,
     // It is above 177777.
+    #[error("the address is too large")]
     TooLarge,
     // No instruction begins at an odd address.
+    #[error("the address is odd")]
     Odd,
 }
 
 // Why a text is no count of instructions; asked in this order.
-#[derive(Clone, Copy)]
+#[derive(Clone, Copy, Debug, Error)]
 pub enum CountFault {
     // It is empty, or has another character than the digits 0 to 9.
+    #[error("the count is not a decimal number")]
     NotDecimal,
     // It is 0 or above 32,768.
+    #[error("the count is out of range")]
     OutOfRange,
 }
 
@@ -35,27 +41,25 @@ pub enum CountFault {
 pub fn parse_address(text: &str) -> Result<u16, AddressFault>
     ensures { result ≡ address_in text.now }
 {
-    if !is_numeral(OCTAL, text.as_bytes()) {
+    if !is_numeral(OCTAL, text) {
         return Err(AddressFault::NotOctal);
     }
-    let Some(address) = value(OCTAL, text.as_bytes()) else {
-        return Err(AddressFault::TooLarge);
-    };
-    if address % 2 == 1 {
-        return Err(AddressFault::Odd);
+    let address = value(OCTAL, text).ok_or(AddressFault::TooLarge)?;
+    if address.is_multiple_of(2) {
+        Ok(address)
+    } else {
+        Err(AddressFault::Odd)
     }
-    Ok(address)
 }
 
 // The count, 1 to 32,768, that decimal digits write.
 pub fn parse_count(text: &str) -> Result<u16, CountFault>
     ensures { result ≡ count_in text.now }
 {
-    if !is_numeral(DECIMAL, text.as_bytes()) {
+    if !is_numeral(DECIMAL, text) {
         return Err(CountFault::NotDecimal);
     }
-    match value(DECIMAL, text.as_bytes()) {
-        Some(count) if count >= 1 && count <= MOST_INSTRUCTIONS => Ok(count),
-        _ => Err(CountFault::OutOfRange),
-    }
+    value(DECIMAL, text)
+        .filter(|count| (1..=MOST_INSTRUCTIONS).contains(count))
+        .ok_or(CountFault::OutOfRange)
 }

@@ -11,8 +11,5 @@ pub type Image = [u8; 65_536];
 pub fn image_of(bytes: &[u8]) -> Result<&Image, Refusal>
     ensures { told (λ image. image.now) result ≡ sized bytes.now }
 {
-    match <&Image>::try_from(bytes) {
-        Ok(image) => Ok(image),
-        Err(_) => Err(Refusal::WrongSize),
-    }
+    bytes.as_array().ok_or(Refusal::WrongSize)
 }

@@ -1,48 +1,34 @@
 // Numbers that are written in digits of a base.
-ghost use Rattle.std.specs.Prelude.{◌≡◌, ◌<◌};
+ghost use Rattle.std.specs.Prelude.{◌≡◌, ◌≤◌, IsTrue};
 ghost use Rattle.image.specs.Numerals.{digit, digits, numeral, number_of, up_to};
 
 const ZERO: u8 = b'0';
 
-// The largest number that is read.
-const LARGEST: u32 = 65_535;
-
-fn is_digit(base: u8, byte: u8) -> bool
+fn is_digit(base: u32, byte: u8) -> bool
     ensures { result ≡ digit base byte }
 {
-    byte >= ZERO && byte - ZERO < base
+    byte >= ZERO && u32::from(byte - ZERO) < base
 }
 
 // Whether each byte is a digit of the base.
-fn all_digits(base: u8, text: &[u8]) -> bool
+fn all_digits(base: u32, text: &[u8]) -> bool
     ensures { result ≡ digits base text.now }
 {
-    for byte in text {
-        if !is_digit(base, *byte) {
-            return false;
-        }
-    }
-    true
+    text.iter().all(|byte| is_digit(base, *byte))
 }
 
 // Whether the text is one digit or more, and nothing else.
-pub(crate) fn is_numeral(base: u8, text: &[u8]) -> bool
+pub(crate) fn is_numeral(base: u32, text: &str) -> bool
     ensures { result ≡ numeral base text.now }
 {
-    !text.is_empty() && all_digits(base, text)
+    !text.is_empty() && all_digits(base, text.as_bytes())
 }
 
-// The number that the digits write, unless it takes more than 16 bits.
-pub(crate) fn value(base: u8, text: &[u8]) -> Option<u16>
-    requires { 0 < base }
-    ensures { result ≡ up_to 65535 (number_of base text.now) }
+// The number that a numeral writes, unless it takes more than 16 bits.
+pub(crate) fn value(base: u32, text: &str) -> Option<u16>
+    requires least { 2 ≤ base }
+    requires most { base ≤ 10 }
+    ensures { IsTrue (numeral base text.now) → result ≡ up_to 65535 (number_of base text.now) }
 {
-    let mut value = 0u32;
-    for byte in text {
-        value = value * base as u32 + byte.saturating_sub(ZERO) as u32;
-        if value > LARGEST {
-            return None;
-        }
-    }
-    Some(value as u16)
+    u16::from_str_radix(text, base).ok()
 }

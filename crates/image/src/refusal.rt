@@ -2,10 +2,10 @@
 ghost use Rattle.std.specs.Prelude.{◌≡◌};
 ghost use Rattle.image.specs.Images.{refusal_number};
 
-#[derive(Clone, Copy)]
+#[derive(Clone, Copy, Debug)]
 pub enum Refusal {
     // There are more or fewer than 65,536 bytes.
-    WrongSize,
+    WrongSize = 1,
 }
 
 impl Refusal {
@@ -13,8 +13,6 @@ impl Refusal {
     pub fn number(self) -> u8
         ensures { result ≡ refusal_number self }
     {
-        match self {
-            Refusal::WrongSize => 1,
-        }
+        self as u8
     }
 }

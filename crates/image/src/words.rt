@@ -8,19 +8,15 @@ use crate::bytes::Image;
 pub fn word_at(image: &Image, address: u16) -> u16
     ensures { result ≡ word_at image.now address }
 {
-    let low = (address - address % 2) as usize;
-    image[low] as u16 + 256 * image[low + 1] as u16
+    let low = usize::from(address - address % 2);
+    u16::from_le_bytes([image[low], image[low + 1]])
 }
 
 // That word and the two that follow; behind 177776 comes 000000.
 pub fn words_at(image: &Image, address: u16) -> [u16; 3]
     ensures { result ≡ words_at image.now address }
 {
-    [
-        word_at(image, address),
-        word_at(image, address.wrapping_add(2)),
-        word_at(image, address.wrapping_add(4)),
-    ]
+    [0, 2, 4].map(|step| word_at(image, address.wrapping_add(step)))
 }
 
 // The address so many words further on.

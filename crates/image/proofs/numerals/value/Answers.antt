@@ -1,38 +1,45 @@
-use Rattle.std.proofs.Common.{◌≡◌, ℕ, ◌+◌, ◌-◌, ◌*◌, ◌<◌, ◌≤◌, Bool, cond, List, [], ◌∷◌, length, get_or, drop, Some, None, sym, ap, ◌∙◌, le-mul_of_pos_right, arith, le-leb}
-use borrow.Author.Tests.{lt-leb}
-use Rattle.std.proofs.lemmas.List.{at_drop_more, at_drop_all}
-use Rattle.image.specs.Numerals.{number_after, up_to}
+use Rattle.std.proofs.Common.{◌≡◌, ℕ, ◌+◌, ◌-◌, ◌*◌, ◌^◌, ◌<◌, ◌≤◌, Result, Ok, Err, true, List, [], ◌∷◌, length, nat_lt, refl, subst, arith, ltb-true}
+use Rattle.std.proofs.lemmas.Bool.{and_parts}
+use Rattle.std.proofs.lemmas.Bool.Decides.{nat_tests}
+use Rattle.std.proofs.lemmas.Str.Parse.{without_leading_plus_none}
+use Rattle.std.specs.Char.{digit_value}
+use Rattle.std.specs.Result.{OkIff, result_ok}
+use Rattle.std.specs.Str.Parse.{AllDigits, IsNumeral, digits_value_after, digits_value, without_leading_plus, ParsesUnsigned}
+use Rattle.image.specs.Numerals.{digit, digits, numeral, number_after, number_of, up_to}
 use Rattle.image.proofs.numerals.value.Goals as goal
 
--- the next byte goes behind the number so far
-next : (base n i : ℕ) (text : List ℕ) → i < length text → number_after base n (drop i text) ≡ number_after base (n * base + (get_or text i 0 - 48)) (drop (i + 1) text)
-next base n i text inside = at_drop_more (number_after base n) text i 0 inside
+-- what fits 16 bits is read, and nothing else
+fits : {E : Type 0} (r : Result ℕ E) (P : Type 0) (v : ℕ) → P → OkIff r (P × (v < 2 ^ 16)) v → result_ok r ≡ up_to 65535 v
+fits (Ok x) P v p h = grind (arith, nat_tests)
+fits (Err e) P v p h = grind (arith, nat_tests)
 
--- a number falls by no digit behind it
-grows : (base n : ℕ) (text : List ℕ) → 0 < base → n ≤ number_after base n text
-grows base n [] positive = omega arith
-grows base n (c ∷ cs) positive = omega (arith, le-mul_of_pos_right n positive, grows base (n * base + (c - 48)) cs positive)
+module _ (base : ℕ) (most : base ≤ 10) where
+  one : (c : ℕ) → digit base c ≡ true → (48 ≤ c) × (digit_value c ≡ c - 48) × (c - 48 < base)
+  one c d = grind (arith, nat_tests)
 
-large : (most n : ℕ) → most < n → None ≡ up_to most n
-large most n above = ap (λ (b : Bool). cond b (Some n) None) (sym (lt-leb n most above))
+  -- digits of the base are the library's digits, and write the same number
+  same : (n : ℕ) (cs : List ℕ) → digits base cs ≡ true → AllDigits base cs × (digits_value_after base n cs ≡ number_after base n cs)
+  same n [] d = (tt, refl)
+  same n (c ∷ cs) d =
+      let parts = and_parts (digit base c) (digits base cs) d in
+      let e = one c parts.0 in
+      let r = same (n * base + (c - 48)) cs parts.1 in
+      ((omega (arith, e), r.0), rw e.1 (r.1))
 
-small : (most n : ℕ) → n ≤ most → Some n ≡ up_to most n
-small most n within = ap (λ (b : Bool). cond b (Some n) None) (sym (le-leb n most within))
+  -- no sign stands in front of digits
+  unsigned : (text : List ℕ) → digits base text ≡ true → without_leading_plus text ≡ text
+  unsigned [] d = refl
+  unsigned (c ∷ cs) d =
+      let e = one c (and_parts (digit base c) (digits base cs) d).0 in
+      without_leading_plus_none (c ∷ cs) (λ q. absurd (omega (arith, e, q)))
 
-pub returns-then-value-gt-LARGEST : goal.returns-then-value-gt-LARGEST
-returns-then-value-gt-LARGEST c =
-    let text = c.args.text.now in
-    let base = c.args.base in
-    let i = c.loop-byte.byte-index in
-    let n = c.loop-byte.value * base + (get_or text i 0 - 48) in
-    large 65535 _ (omega (arith, next base c.loop-byte.value i text c.loop-byte-test.true, grows base n (drop (i + 1) text) c.requires, c.loop-byte.invariant.1))
-
-pub loop-byte-preserved : goal.loop-byte-preserved
-loop-byte-preserved c =
-    let step = next c.args.base c.loop-byte.value c.loop-byte.byte-index c.args.text.now c.loop-byte-test.true in
-    (c.if-value-gt-LARGEST.false, cc)
+  read : {E : Type 0} (text : List ℕ) (r : Result ℕ E) → ParsesUnsigned 16 base text r → numeral base text ≡ true → result_ok r ≡ up_to 65535 (number_of base text)
+  read text r h d =
+      let parts = and_parts (nat_lt 0 (length text)) (digits base text) d in
+      let s = same 0 text parts.1 in
+      let plain = subst (λ t. OkIff r (IsNumeral base t × (digits_value base t < 2 ^ 16)) (digits_value base t)) (unsigned text parts.1) h in
+      fits r (IsNumeral base text) (number_of base text) (ltb-true 0 (length text) parts.0, s.0)
+      (subst (λ v. OkIff r (IsNumeral base text × (v < 2 ^ 16)) v) s.1 plain)
 
 pub returns : goal.returns
-returns c =
-    let whole = at_drop_all (number_after c.args.base c.loop-byte.value) c.args.text.now c.loop-byte.byte-index c.loop-byte-test.false in
-    small 65535 c.loop-byte.value c.loop-byte.invariant.0 ∙ ap (up_to 65535) (sym whole ∙ c.loop-byte.invariant.1)
+returns c = λ d. rw c.ok.ensures.value (read c.args.base c.requires.most c.args.text.now c.from_str_radix.result c.from_str_radix.ensures.value d)
