@@ -1,18 +1,19 @@
 // The line of an instruction.
-ghost use Rattle.std.specs.Prelude.{◌≡◌};
+ghost use Rattle.std.specs.Prelude.{◌≡◌, if◌then◌else◌};
+ghost use Rattle.isa.specs.Further.{takes_word};
 ghost use Rattle.listing.specs.Shown.{shown};
 ghost use Rattle.listing.specs.Text.{flag_text, unnamed, instruction_text};
 
-use crate::names::{condition_name, control_name, double_name, single_name};
+use crate::pieces::Pair;
 use crate::targets::{branch_target, loop_target};
 use crate::text_line::Line;
-use isa::Instruction;
+use isa::{Instruction, Operand};
 
 // A word as a number.
 fn unnamed_line(word: u16) -> Line
     ensures { shown result ≡ unnamed word }
 {
-    Line::named(".WORD").number(word)
+    Line::named(".WORD").behind(word)
 }
 
 // A word that clears or sets flags: eleven of them have names.
@@ -35,42 +36,61 @@ fn flag_line(word: u16) -> Line
     }
 }
 
+// The two operands of an instruction: the destination takes the first index word that the source leaves.
+fn operands(
+    source: Operand,
+    destination: Operand,
+    first: u16,
+    second: u16,
+) -> Pair<(Operand, u16), (Operand, u16)>
+    ensures { result ≡ record { 0 = (source, first); 1 = (destination, if takes_word source then second else first) } }
+{
+    let next = if source.takes_word() { second } else { first };
+    Pair((source, first), (destination, next))
+}
+
 // The line of three words at an address, the first of which says `instruction`.
 pub(crate) fn instruction_line(address: u16, words: [u16; 3], instruction: Instruction) -> Line
     ensures { shown result ≡ instruction_text address words instruction }
 {
     let [word, first, second] = words;
     match instruction {
-        Instruction::Control(control) => Line::named(control_name(control)),
-        Instruction::Jump(d) => Line::named("JMP").operand(d, first),
-        Instruction::Return(register) => Line::named("RTS").register(register),
+        Instruction::Control(control) => Line::empty().with(control),
+        Instruction::Jump(d) => Line::named("JMP").behind((d, first)),
+        Instruction::Return(register) => Line::named("RTS").behind(register),
         Instruction::Flags(_, _) => flag_line(word),
-        Instruction::SwapBytes(d) => Line::named("SWAB").operand(d, first),
+        Instruction::SwapBytes(d) => Line::named("SWAB").behind((d, first)),
         Instruction::Branch(condition, offset) => {
-            Line::named(condition_name(condition)).number(branch_target(address, offset))
+            Line::empty()
+                .with(condition)
+                .behind(branch_target(address, offset))
         }
-        Instruction::Call(register, d) => Line::named("JSR").register_operand(register, d, first),
-        Instruction::Single(size, operation, d) => Line::sized(
-            single_name(operation),
-            size,
-        ).operand(d, first),
-        Instruction::Mark(count) => Line::named("MARK").number(count as u16),
-        Instruction::SignExtend(d) => Line::named("SXT").operand(d, first),
-        Instruction::ToStatus(s) => Line::named("MTPS").operand(s, first),
-        Instruction::FromStatus(d) => Line::named("MFPS").operand(d, first),
+        Instruction::Call(register, d) => Line::named("JSR").behind(Pair(register, (d, first))),
+        Instruction::Single(size, operation, d) => Line::empty()
+            .with(operation)
+            .with(size)
+            .behind((d, first)),
+        Instruction::Mark(count) => Line::named("MARK").behind(count as u16),
+        Instruction::SignExtend(d) => Line::named("SXT").behind((d, first)),
+        Instruction::ToStatus(s) => Line::named("MTPS").behind((s, first)),
+        Instruction::FromStatus(d) => Line::named("MFPS").behind((d, first)),
         Instruction::Double(size, operation, s, d) => {
-            Line::sized(double_name(operation), size).operands(s, d, first, second)
+            Line::empty()
+                .with(operation)
+                .with(size)
+                .behind(operands(s, d, first, second))
         }
-        Instruction::Add(s, d) => Line::named("ADD").operands(s, d, first, second),
-        Instruction::Subtract(s, d) => Line::named("SUB").operands(s, d, first, second),
-        Instruction::ExclusiveOr(register, d) => Line::named("XOR").register_operand(
-            register, d, first,
-        ),
+        Instruction::Add(s, d) => Line::named("ADD").behind(operands(s, d, first, second)),
+        Instruction::Subtract(s, d) => Line::named("SUB").behind(operands(s, d, first, second)),
+        Instruction::ExclusiveOr(register, d) => Line::named("XOR").behind(Pair(
+            register,
+            (d, first),
+        )),
         Instruction::Loop(register, count) => {
-            Line::named("SOB").register_number(register, loop_target(address, count))
+            Line::named("SOB").behind(Pair(register, loop_target(address, count)))
         }
-        Instruction::Emulate(number) => Line::named("EMT").number(number as u16),
-        Instruction::Trap(number) => Line::named("TRAP").number(number as u16),
+        Instruction::Emulate(number) => Line::named("EMT").behind(number as u16),
+        Instruction::Trap(number) => Line::named("TRAP").behind(number as u16),
         Instruction::Reserved(_) => unnamed_line(word),
     }
 }

@@ -5,11 +5,13 @@ mod forms;
 mod instructions;
 pub mod lister;
 mod names;
-mod operands;
+mod numbers;
+mod pieces;
 pub mod refusal;
 mod targets;
 pub mod text_line;
 mod writer;
 
 pub use lister::{Listed, list};
+pub use numbers::octal;
 pub use refusal::Refusal;

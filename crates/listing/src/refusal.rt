@@ -5,9 +5,9 @@ ghost use Rattle.listing.specs.Refused.{refusal_number};
 #[derive(Clone, Copy)]
 pub enum Refusal {
     // The output has fewer than 28 bytes.
-    ShortOutput,
+    ShortOutput = 15,
     // No words list to this line at this address.
-    NoListing,
+    NoListing = 16,
 }
 
 impl Refusal {
@@ -15,9 +15,6 @@ impl Refusal {
     pub fn number(self) -> u8
         ensures { result ≡ refusal_number self }
     {
-        match self {
-            Refusal::ShortOutput => 15,
-            Refusal::NoListing => 16,
-        }
+        self as u8
     }
 }

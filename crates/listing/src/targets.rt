@@ -6,13 +6,9 @@ ghost use Rattle.listing.specs.Text.{branch_target, loop_target};
 pub(crate) fn branch_target(address: u16, offset: i8) -> u16
     ensures { result ≡ branch_target address offset }
 {
-    let next = address.wrapping_add(2);
-    let distance = 2 * offset.unsigned_abs() as u16;
-    if offset < 0 {
-        next.wrapping_sub(distance)
-    } else {
-        next.wrapping_add(distance)
-    }
+    address
+        .wrapping_add(2)
+        .wrapping_add_signed(2 * i16::from(offset))
 }
 
 // SOB at `address` goes back by `count` words from the word behind it.

@@ -1,9 +1,9 @@
-// Writing text and numbers at a line's end.
-ghost use Rattle.std.specs.Prelude.{◌≡◌, ◌+◌, ◌<◌, ◌≤◌, [], ◌∷◌, ◌++◌, length, drop};
+// Writing text at a line's end, and what stands in a line.
+ghost use Rattle.std.specs.Prelude.{◌≡◌, ◌+◌, ◌≤◌, [], ◌++◌, length, drop, Some};
 ghost use Rattle.listing.specs.Shown.{shown};
-ghost use Rattle.listing.specs.Text.{octal};
 
 use crate::text_line::Line;
+use std::fmt;
 
 impl Line {
     pub(crate) fn empty() -> Line
@@ -16,23 +16,14 @@ impl Line {
         }
     }
 
-    fn push(&mut self, byte: u8)
-        requires { self.old.length < 28 }
-        ensures text { shown self.new ≡ shown self.old ++ (byte ∷ []) }
-        ensures size { self.new.length ≡ self.old.length + 1 }
-    {
-        self.bytes[self.length] = byte;
-        self.length += 1;
-    }
-
-    fn put_bytes(&mut self, more: &[u8])
+    pub(crate) fn put_bytes(&mut self, more: &[u8])
         requires { self.old.length + length more.now ≤ 28 }
         ensures text { shown self.new ≡ shown self.old ++ more.now }
         ensures size { self.new.length ≡ self.old.length + length more.now }
     {
-        for byte in more {
-            self.push(*byte);
-        }
+        let end = self.length + more.len();
+        self.bytes[self.length..end].copy_from_slice(more);
+        self.length = end;
     }
 
     pub(crate) fn put(&mut self, more: &str)
@@ -43,31 +34,15 @@ impl Line {
         self.put_bytes(more.as_bytes());
     }
 
-    pub(crate) fn put_octal(&mut self, number: u16)
-        requires { self.old.length + 6 ≤ 28 }
-        ensures text { shown self.new ≡ shown self.old ++ octal number }
-        ensures size { self.new.length ≡ self.old.length + 6 }
-    {
-        let digits = [
-            b'0' + (number / 0o100000) as u8,
-            b'0' + (number / 0o10000 % 8) as u8,
-            b'0' + (number / 0o1000 % 8) as u8,
-            b'0' + (number / 0o100 % 8) as u8,
-            b'0' + (number / 0o10 % 8) as u8,
-            b'0' + (number % 8) as u8,
-        ];
-        self.put_bytes(&digits);
-    }
-
     // Copies the line to the front of `out`, and answers its length.
     pub(crate) fn copy_to(self, out: &mut [u8]) -> usize
         requires { 28 ≤ length out.old }
         ensures written { out.new ≡ shown self ++ drop (length (shown self)) out.old }
         ensures size { result ≡ length (shown self) }
     {
-        let length = self.length;
-        out[0..length].copy_from_slice(&self.bytes[0..length]);
-        length
+        let text = self.as_bytes();
+        out[..text.len()].copy_from_slice(text);
+        text.len()
     }
 
     // The text that stands in the line.
@@ -75,5 +50,14 @@ impl Line {
         ensures { result.now ≡ shown self.now }
     {
         &self.bytes[0..self.length]
+    }
+}
+
+impl fmt::Display for Line {
+    ghost output = { λ line. Some (shown line) };
+
+    fn fmt<W: fmt::Write>(&self, f: &mut fmt::Formatter<W>) -> fmt::Result {
+        let text = str::from_utf8(self.as_bytes()).map_err(|_| fmt::Error)?;
+        f.write_str(text)
     }
 }

@@ -1,4 +1,0 @@
-use Rattle.listing.proofs.instructions.unnamed_line.Goals as goal
-
-pub returns : goal.returns
-returns c = simp (c.number.ensures, c.named.ensures.text)
