@@ -53,11 +53,7 @@ impl fmt::Display for Row {
                 f.write_str(NO_WORD)?;
             }
         }
-        f.write_str(" ")?;
-        for byte in self.line.as_bytes() {
-            let character = char::from(*byte);
-            write!(f, "{character}")?;
-        }
-        Ok(())
+        let line = self.line;
+        write!(f, " {line}")
     }
 }
