@@ -1,14 +1,15 @@
 // Reads lines of an address and a listing, and prints the words of each, or the number of its refusal.
 #![tactic(auto)]
 
-use anyhow::anyhow;
+use anyhow::Context;
 use line_reader::read_back;
 
-// The address at the front of a line, and the listing behind its space.
+// The address at the front of a line, and the listing behind its space. `listing_table` takes its fields apart in the same
+// two lines under another message: a library function for both, with its contract, would be longer than the two.
 fn split(line: &str) -> anyhow::Result<(u16, &str)> {
-    let Some((address, text)) = line.split_once(' ') else {
-        return Err(anyhow!("a line is an address, a space and a listing"));
-    };
+    let (address, text) = line
+        .split_once(' ')
+        .context("a line is an address, a space and a listing")?;
     Ok((u16::from_str_radix(address, 8)?, text))
 }
 

@@ -1,7 +1,7 @@
 // Lists each row of a table, compares the listing with the text that the row expects, and reads that text back.
 #![tactic(auto)]
 
-use anyhow::anyhow;
+use anyhow::Context;
 use line_reader::read_back;
 use listing::list;
 use listing::lister::LONGEST_LINE;
@@ -17,9 +17,7 @@ struct Row<'a> {
 
 // The next field of a line and what stands behind its space.
 fn field(line: &str) -> anyhow::Result<(u16, &str)> {
-    let Some((digits, rest)) = line.split_once(' ') else {
-        return Err(anyhow!("a field is missing"));
-    };
+    let (digits, rest) = line.split_once(' ').context("a field is missing")?;
     Ok((u16::from_str_radix(digits, 8)?, rest))
 }
 
@@ -40,20 +38,13 @@ fn read_row(line: &str) -> anyhow::Result<Row<'_>> {
 // Whether the row's words list to its text, and the bytes behind it stay.
 fn lists(row: &Row<'_>) -> bool {
     let mut out = [b'~'; LONGEST_LINE];
-    let Ok(listed) = list(row.address, row.words, &mut out) else {
-        return false;
-    };
-    let Some(text) = out.get(0..listed.length) else {
-        return false;
-    };
-    let Some(rest) = out.get(listed.length..LONGEST_LINE) else {
-        return false;
-    };
-    let mut same = text == row.text.as_bytes() && listed.words == row.used as usize;
-    for byte in rest {
-        same = same && *byte == b'~';
-    }
-    same
+    list(row.address, row.words, &mut out).is_ok_and(|listed| {
+        out.split_at_checked(listed.length).is_some_and(|(text, rest)| {
+            text == row.text.as_bytes()
+                && listed.words == usize::from(row.used)
+                && rest.iter().all(|byte| *byte == b'~')
+        })
+    })
 }
 
 // Whether the row's text reads back as the words that it uses, then zeros.
