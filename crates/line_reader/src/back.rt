@@ -14,17 +14,11 @@ pub struct ReadBack {
     pub refusal: Option<Refusal>,
 }
 
-fn same_bytes(left: &[u8], right: &[u8]) -> bool
-    ensures { Decides result (left.now ≡ right.now) }
-{
-    left == right
-}
-
 // Whether a line is the listing of words at an address.
 fn is_listing(address: u16, words: [u16; 3], line: &[u8]) -> bool
     ensures { Decides result (text address words ≡ line.now) }
 {
-    same_bytes(line_of(address, words).as_bytes(), line)
+    line_of(address, words).as_bytes() == line
 }
 
 // The words that a line is the listing of, if there are any.
@@ -32,11 +26,7 @@ fn words_in(address: u16, line: &[u8]) -> Option<[u16; 3]>
     ensures { Found address line.now result }
 {
     let words = candidate_in(address, line);
-    if is_listing(address, words, line) {
-        Some(words)
-    } else {
-        None
-    }
+    is_listing(address, words, line).then_some(words)
 }
 
 // Reads a line that is the listing of some words at `address`; any other is refused.
@@ -61,10 +51,7 @@ fn listed_length(address: u16, words: [u16; 3], out: &mut [u8; LONGEST_LINE]) ->
     ensures written { take result out.new ≡ text address words }
     ensures fits { result ≤ 28 }
 {
-    match list(address, words, out) {
-        Ok(listed) => listed.length,
-        Err(_) => 0,
-    }
+    list(address, words, out).map_or(0, |listed| listed.length)
 }
 
 // Reads a line back that is known to be the listing of these words.
@@ -81,5 +68,5 @@ pub fn list_and_read_back(address: u16, words: [u16; 3]) -> ReadBack
 {
     let mut out = [0; LONGEST_LINE];
     let length = listed_length(address, words, &mut out);
-    read_listing(address, words, &out[0..length])
+    read_listing(address, words, &out[..length])
 }

@@ -6,22 +6,14 @@ ghost use Rattle.line_reader.specs.Fields.{behind_name};
 pub(crate) fn look(line: &[u8], index: usize) -> char
     ensures { result ≡ slice_index line.now index }
 {
-    if index < line.len() {
-        line[index] as char
-    } else {
-        '\0'
-    }
+    line.get(index).map_or('\0', |byte| char::from(*byte))
 }
 
 // What stands behind the first `count` characters.
 pub(crate) fn skip(line: &[u8], count: usize) -> &[u8]
     ensures { result.now ≡ drop count line.now }
 {
-    if count <= line.len() {
-        &line[count..]
-    } else {
-        &line[line.len()..]
-    }
+    line.get(count..).unwrap_or(&[])
 }
 
 // What stands behind the space after a name of two to five characters.

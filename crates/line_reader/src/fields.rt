@@ -1,6 +1,6 @@
 // Registers, numbers and targets, read from the front of a text. Any text gives some value.
-ghost use Rattle.std.specs.Prelude.{◌≡◌, ◌<◌};
-ghost use Rattle.line_reader.specs.Fields.{register_in, digit_in, with_digit, number_in, size_in, offset_to, count_to};
+ghost use Rattle.std.specs.Prelude.{◌≡◌};
+ghost use Rattle.line_reader.specs.Fields.{register_in, with_digit, number_in, size_in, offset_to, count_to};
 
 use crate::characters::look;
 use isa::{Register, Size};
@@ -20,33 +20,19 @@ pub(crate) fn register_in(text: &[u8]) -> Register
     }
 }
 
-fn digit_in(character: char) -> u32
-    ensures value { result ≡ digit_in character }
-    ensures small { result < 8 }
-{
-    match character {
-        '0'..='7' => character as u32 - '0' as u32,
-        _ => 0,
-    }
-}
-
-// A number with one more octal digit; what passes 16 bits is lost.
+// A number with one more octal digit; what passes 16 bits is lost, and any other character counts as 0.
 fn with_digit(number: u16, character: char) -> u16
     ensures { result ≡ with_digit number character }
 {
-    ((number as u32 * 0o10 + digit_in(character)) % 65536) as u16
+    let digit = character.to_digit(8).unwrap_or(0) as u16;
+    number.wrapping_mul(8).wrapping_add(digit)
 }
 
 // Six octal digits.
 pub(crate) fn number_in(text: &[u8]) -> u16
     ensures { result ≡ number_in text.now }
 {
-    let first = with_digit(0, look(text, 0));
-    let second = with_digit(first, look(text, 1));
-    let third = with_digit(second, look(text, 2));
-    let fourth = with_digit(third, look(text, 3));
-    let fifth = with_digit(fourth, look(text, 4));
-    with_digit(fifth, look(text, 5))
+    (0..6).fold(0, |number, place| with_digit(number, look(text, place)))
 }
 
 // Whether a B stands behind a name of three letters.

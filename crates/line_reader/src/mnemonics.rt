@@ -118,6 +118,7 @@ fn by_letter(first: char, second: char, third: char) -> Mnemonic
 }
 
 // The mnemonic at the front of a line.
+#[tactic(auto, unfolding(crate::specs::Mnemonics::mnemonic_in))]
 pub(crate) fn mnemonic_in(line: &[u8]) -> Mnemonic
     ensures { result ≡ mnemonic_in line.now }
 {

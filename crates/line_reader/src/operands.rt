@@ -38,6 +38,7 @@ fn behind_at(text: &[u8]) -> Parsed
     }
 }
 
+#[tactic(auto, unfolding(crate::specs::Operands::operand_in))]
 pub(crate) fn operand_in(text: &[u8]) -> Parsed
     ensures value { result ≡ operand_in text.now }
     ensures short { result.length ≤ 11 }

@@ -1,36 +1,24 @@
-use Rattle.std.proofs.Common.{◌≡◌, ◌<◌, get_or, sym, ◌∙◌, w16, Fits, rules}
+use Rattle.std.proofs.Common.{◌≡◌, ◌<◌, List, ℕ, Bool, true, false, refl, rules}
 use borrow.Author.Tests.{clash}
+use Rattle.std.specs.Bool.{Decides, then_some}
 use Rattle.listing.specs.Listing.{text}
-use Rattle.line_reader.specs.Back.{Words}
+use Rattle.line_reader.specs.Back.{Words, Found}
+use Rattle.line_reader.specs.Candidate.{candidate}
 use Rattle.line_reader.proofs.Round.{rest_zero, found, lists_too}
 use Rattle.line_reader.proofs.back.words_in.Goals as goal
 
-pub returns-then-is_listing : goal.returns-then-is_listing
-returns-then-is_listing c =
-    let a = c.args.address in
-    let line = c.args.line.now in
-    let words = c.candidate_in-words.result in
-    let ha : a < 65536 = search rules in
-    let f : Fits w16 (get_or words 0 0) = search rules in
-    let g : Fits w16 (get_or words 1 0) = search rules in
-    let h : Fits w16 (get_or words 2 0) = search rules in
-    let fits : Words words = record { three = search rules; word_fits = f.fits; first_fits = g.fits; second_fits = h.fits } in
-    let cand = c.candidate_in-words.ensures in
-    let t : text a words ≡ line = c.is_listing.ensures.0 c.if-is_listing.true in
-    record {
-      lists = record { listed = t; rest_zero = rest_zero a line words ha fits cand t };
-      only = found a line words ha fits cand;
-    }
+module _ (a : ℕ) (line words : List ℕ) (ha : a < 65536) (fits : Words words) (cand : words ≡ candidate a line) where
+  -- whether the candidate lists to the line decides what is found
+  decided : (b : Bool) → Decides b (text a words ≡ line) → Found a line (then_some b words)
+  decided true d =
+      let listed = d.0 refl in
+      record {
+        lists = record { listed = listed; rest_zero = rest_zero a line words ha fits cand listed };
+        only = found a line words ha fits cand;
+      }
+  decided false d = λ others w u. clash (d.1 (lists_too a line words ha fits cand others w u))
 
-pub returns-else-is_listing : goal.returns-else-is_listing
-returns-else-is_listing c =
-    let a = c.args.address in
-    let line = c.args.line.now in
-    let words = c.candidate_in-words.result in
-    let ha : a < 65536 = search rules in
-    let f : Fits w16 (get_or words 0 0) = search rules in
-    let g : Fits w16 (get_or words 1 0) = search rules in
-    let h : Fits w16 (get_or words 2 0) = search rules in
-    let fits : Words words = record { three = search rules; word_fits = f.fits; first_fits = g.fits; second_fits = h.fits } in
-    let cand = c.candidate_in-words.ensures in
-    λ others w u. clash (sym c.if-is_listing.false ∙ c.is_listing.ensures.1 (lists_too a line words ha fits cand others w u))
+pub returns : goal.returns
+returns c =
+    let fits : Words c.candidate_in-words.result = search rules in
+    rw c.then_some.ensures (decided c.args.address c.args.line.now c.candidate_in-words.result (search rules) fits c.candidate_in-words.ensures c.is_listing.result c.is_listing.ensures)
