@@ -24,15 +24,23 @@ number_back n rest h =
     let f = digit_back (n % 8) (omega arith) in
     simp (a, b, c, d, e, f) (omega arith)
 
+-- what holds at each register
+pub each_register : (P : Register → Type 0) → P R0 → P R1 → P R2 → P R3 → P R4 → P R5 → P Sp → P Pc → (r : Register) → P r
+each_register P a b c d e f g h R0 = a
+each_register P a b c d e f g h R1 = b
+each_register P a b c d e f g h R2 = c
+each_register P a b c d e f g h R3 = d
+each_register P a b c d e f g h R4 = e
+each_register P a b c d e f g h R5 = f
+each_register P a b c d e f g h Sp = g
+each_register P a b c d e f g h Pc = h
+
 pub register_back : (r : Register) (rest : List ℕ) → register_in (register_name r ++ rest) ≡ r
-register_back R0 rest = refl
-register_back R1 rest = refl
-register_back R2 rest = refl
-register_back R3 rest = refl
-register_back R4 rest = refl
-register_back R5 rest = refl
-register_back Sp rest = refl
-register_back Pc rest = refl
+register_back r rest = each_register (λ k. register_in (register_name k ++ rest) ≡ k) refl refl refl refl refl refl refl refl r
+
+-- behind a register and a comma
+pub behind_register : (r : Register) (rest : List ℕ) → drop 3 (register_name r ++ (44 ∷ rest)) ≡ rest
+behind_register r rest = each_register (λ k. drop 3 (register_name k ++ (44 ∷ rest)) ≡ rest) refl refl refl refl refl refl refl refl r
 
 -- a branch is read back from its target
 pub branch_back : (a : ℕ) (z : ℤ) → a < 65536 → in_byte z ≡ true → offset_to a (branch_target a z) ≡ z
@@ -53,24 +61,3 @@ loop-back a n ha hn =
     let t = (a + 2 + 65536 - 2 * n) % 65536 in
     let d : (a + 65538 - t) % 65536 ≡ 2 * n = omega arith in
     rw d (omega arith)
-
-pub register_alone : (r : Register) → register_in (register_name r) ≡ r
-register_alone R0 = refl
-register_alone R1 = refl
-register_alone R2 = refl
-register_alone R3 = refl
-register_alone R4 = refl
-register_alone R5 = refl
-register_alone Sp = refl
-register_alone Pc = refl
-
--- behind a register and a comma
-pub behind_register : (r : Register) (rest : List ℕ) → drop 3 (register_name r ++ (44 ∷ rest)) ≡ rest
-behind_register R0 rest = refl
-behind_register R1 rest = refl
-behind_register R2 rest = refl
-behind_register R3 rest = refl
-behind_register R4 rest = refl
-behind_register R5 rest = refl
-behind_register Sp rest = refl
-behind_register Pc rest = refl

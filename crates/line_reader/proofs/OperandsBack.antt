@@ -9,7 +9,7 @@ use Rattle.listing.specs.Text.{operand_text}
 use Rattle.line_reader.specs.declared.parsed.Parsed.{Parsed}
 use Rattle.line_reader.specs.Fields.{number_in, register_in}
 use Rattle.line_reader.specs.Operands.{numbered, behind_at, operand_in}
-use Rattle.line_reader.proofs.FieldsBack.{number_back}
+use Rattle.line_reader.proofs.FieldsBack.{number_back, each_register}
 
 -- what an operand of a listing is read as
 abbrev pub parsed_of : Operand → ℕ → Parsed
@@ -39,17 +39,6 @@ digit-behind-at s lo =
     let c = ne_eqb (get_or s 1 0) 45 (omega arith) in
     simp (a, b, c)
 
--- what holds at each register
-eight : (P : Register → Type 0) → P R0 → P R1 → P R2 → P R3 → P R4 → P R5 → P Sp → P Pc → (r : Register) → P r
-eight P a b c d e f g h R0 = a
-eight P a b c d e f g h R1 = b
-eight P a b c d e f g h R2 = c
-eight P a b c d e f g h R3 = d
-eight P a b c d e f g h R4 = e
-eight P a b c d e f g h R5 = f
-eight P a b c d e f g h Sp = g
-eight P a b c d e f g h Pc = h
-
 index_back
     : (r : Register) (n : ℕ) (rest : List ℕ) → n < 65536 →
     register_in (drop 7 (operand_text (Index r) n ++ rest)) ≡ r →
@@ -75,28 +64,28 @@ pub operand-back
     operand_in (operand_text o n ++ rest) ≡ parsed_of o n
 unfolding operand_in
 operand-back (Direct r) n rest hn hp =
-    eight (λ k. operand_in (operand_text (Direct k) n ++ rest) ≡ parsed_of (Direct k) n) refl refl refl refl refl refl refl refl r
+    each_register (λ k. operand_in (operand_text (Direct k) n ++ rest) ≡ parsed_of (Direct k) n) refl refl refl refl refl refl refl refl r
 operand-back (Deferred r) n rest hn hp =
-    eight (λ k. operand_in (operand_text (Deferred k) n ++ rest) ≡ parsed_of (Deferred k) n)
+    each_register (λ k. operand_in (operand_text (Deferred k) n ++ rest) ≡ parsed_of (Deferred k) n)
     (rw hp) (rw hp) (rw hp) (rw hp) (rw hp) (rw hp) (rw hp) (rw hp) r
 operand-back (Increment r) n rest hn hp =
-    eight (λ k. operand_in (operand_text (Increment k) n ++ rest) ≡ parsed_of (Increment k) n) refl refl refl refl refl refl refl
+    each_register (λ k. operand_in (operand_text (Increment k) n ++ rest) ≡ parsed_of (Increment k) n) refl refl refl refl refl refl refl
     (ap (λ m. numbered (Increment Pc) m 7) (number_back n rest hn)) r
 operand-back (IncrementDeferred r) n rest hn hp =
-    eight (λ k. operand_in (operand_text (IncrementDeferred k) n ++ rest) ≡ parsed_of (IncrementDeferred k) n)
+    each_register (λ k. operand_in (operand_text (IncrementDeferred k) n ++ rest) ≡ parsed_of (IncrementDeferred k) n)
     refl refl refl refl refl refl refl
     (ap (λ m. numbered (IncrementDeferred Pc) m 8) (number_back n rest hn)) r
 operand-back (Decrement r) n rest hn hp =
-    eight (λ k. operand_in (operand_text (Decrement k) n ++ rest) ≡ parsed_of (Decrement k) n) refl refl refl refl refl refl refl refl r
+    each_register (λ k. operand_in (operand_text (Decrement k) n ++ rest) ≡ parsed_of (Decrement k) n) refl refl refl refl refl refl refl refl r
 operand-back (DecrementDeferred r) n rest hn hp =
-    eight (λ k. operand_in (operand_text (DecrementDeferred k) n ++ rest) ≡ parsed_of (DecrementDeferred k) n)
+    each_register (λ k. operand_in (operand_text (DecrementDeferred k) n ++ rest) ≡ parsed_of (DecrementDeferred k) n)
     refl refl refl refl refl refl refl refl r
 operand-back (Index r) n rest hn hp =
-    eight (λ k. operand_in (operand_text (Index k) n ++ rest) ≡ parsed_of (Index k) n)
+    each_register (λ k. operand_in (operand_text (Index k) n ++ rest) ≡ parsed_of (Index k) n)
     (index_back R0 n rest hn refl) (index_back R1 n rest hn refl) (index_back R2 n rest hn refl) (index_back R3 n rest hn refl)
     (index_back R4 n rest hn refl) (index_back R5 n rest hn refl) (index_back Sp n rest hn refl) (index_back Pc n rest hn refl) r
 operand-back (IndexDeferred r) n rest hn hp =
-    eight (λ k. operand_in (operand_text (IndexDeferred k) n ++ rest) ≡ parsed_of (IndexDeferred k) n)
+    each_register (λ k. operand_in (operand_text (IndexDeferred k) n ++ rest) ≡ parsed_of (IndexDeferred k) n)
     (index-deferred-back R0 n rest hn refl) (index-deferred-back R1 n rest hn refl)
     (index-deferred-back R2 n rest hn refl) (index-deferred-back R3 n rest hn refl)
     (index-deferred-back R4 n rest hn refl) (index-deferred-back R5 n rest hn refl)

@@ -1,5 +1,6 @@
 -- The line of a listing is taken for the words that it shows.
-use Rattle.std.proofs.Common.{◌≡◌, ℕ, ◌+◌, ◌%◌, ◌<◌, Bool, true, false, cond, eqb, ltb, List, [], ◌∷◌, ◌++◌, length, drop, ℤ, pos, negsuc, codes, sym, refl, ap, ◌∙◌, inl, inr, suc-add, arith, ltb-true, eqb-true}
+use Rattle.std.proofs.Common.{◌≡◌, ℕ, ◌+◌, ◌%◌, ◌<◌, Bool, true, false, cond, eqb, ltb, List, [], ◌∷◌, ◌++◌, length, drop, ℤ, pos, negsuc, codes, sym, refl, ap, ◌∙◌, inl, inr, append-nil, suc-add, arith, ltb-true, eqb-true}
+use Rattle.std.proofs.lemmas.Bool.{cond_both}
 use Rattle.isa.specs.declared.operand.Register.{Register}
 use Rattle.isa.specs.declared.operand.Operand.{Operand}
 use Rattle.isa.specs.declared.instruction.Size.{Size}
@@ -26,7 +27,7 @@ use Rattle.line_reader.specs.Mnemonics.{mnemonic_in}
 use Rattle.line_reader.specs.Operands.{operand_in}
 use Rattle.line_reader.specs.Candidate.{one_instruction, two_instruction, register_instruction, words_of, numbered_words, pair_words, candidate}
 use Rattle.line_reader.specs.Back.{Words, shown_words}
-use Rattle.line_reader.proofs.FieldsBack.{number_back, register_back, register_alone, behind_register, branch_back, loop-back}
+use Rattle.line_reader.proofs.FieldsBack.{number_back, register_back, behind_register, branch_back, loop-back}
 use Rattle.line_reader.proofs.OperandsBack.{parsed_of, operand-back, operand_alone}
 use Rattle.line_reader.proofs.Opening.{Opens, opened, single_opens, double_opens, branch_opens, control_back}
 use Rattle.line_reader.proofs.Shown.{shown_same}
@@ -76,10 +77,6 @@ drop-front : (xs ys : List ℕ) (c : ℕ) → drop (length xs + 1) (xs ++ (c ∷
 drop-front [] ys c = refl
 drop-front (x ∷ xs) ys c = rw suc-add (drop-front xs ys c)
 
-either_small : (b : Bool) (x y : ℕ) → x < 65536 → y < 65536 → cond b y x < 65536
-either_small true x y hx hy = hy
-either_small false x y hx hy = hx
-
 -- two operands
 two_back
     : (a : ℕ) (name : TwoOperands) (z : Size) (s d : Operand) (x y : ℕ) (line : List ℕ) → x < 65536 → y < 65536 →
@@ -96,7 +93,7 @@ two_back a name z s d x y line hx hy o =
     opened a line z t (Mnemonic.Two name) o
     ∙ ap (λ (p : Parsed). pair_words name z p (operand_in (drop (p.length + 1) t))) (operand-back s x (44 ∷ D) hx refl)
     ∙ ap (λ (l : List ℕ). pair_words name z (parsed_of s x) (operand_in l)) (drop-front (operand_text s x) D 44)
-    ∙ ap (pair_words name z (parsed_of s x)) (operand_alone d n (either_small (takes_word s) x y hx hy))
+    ∙ ap (pair_words name z (parsed_of s x)) (operand_alone d n (cond_both (takes_word s) y x (λ k. k < 65536) (λ e. hy) (λ e. hx)))
     ∙ two-words (takes_word s) (takes_word d) (code.word (two_instruction name z s d)) x y
 
 -- a number alone
@@ -117,11 +114,9 @@ unnamed_back a w hw = numbered-back a Numbered.Data Word w (unnamed w) hw (refl,
 flag-row
     : (a w k : ℕ) (name others : List ℕ) → candidate a name ≡ k ∷ 0 ∷ 0 ∷ [] → candidate a others ≡ w ∷ 0 ∷ 0 ∷ [] →
     candidate a (cond (eqb w k) name others) ≡ w ∷ 0 ∷ 0 ∷ []
-flag-row a w k name others p q = go (eqb w k) refl
-  where
-    go : (b : Bool) → eqb w k ≡ b → candidate a (cond b name others) ≡ w ∷ 0 ∷ 0 ∷ []
-    go true e = p ∙ ap (λ v. v ∷ 0 ∷ 0 ∷ []) (sym (eqb-true w k e))
-    go false e = q
+flag-row a w k name others p q =
+    cond_both (eqb w k) name others (λ s. candidate a s ≡ w ∷ 0 ∷ 0 ∷ [])
+    (λ e. p ∙ ap (λ v. v ∷ 0 ∷ 0 ∷ []) (sym (eqb-true w k e))) (λ e. q)
 
 flags_back : (a w : ℕ) → w < 65536 → candidate a (flag_text w) ≡ w ∷ 0 ∷ 0 ∷ []
 unfolding mnemonic_in
@@ -173,7 +168,7 @@ unfolding mnemonic_in
 back a words (Instruction.Control c) ha h l e = control_back a c
 back a words (Instruction.Jump d) ha h l e =
     one-back a OneOperand.Jump Word d (first words) (second words) (instruction_text a words (Instruction.Jump d)) h.first_fits (refl, refl, refl)
-back a words (Instruction.Return r) ha h l e = ap (λ (q : Register). words_of (Instruction.Return q) 0) (register_alone r)
+back a words (Instruction.Return r) ha h l e = ap (λ (q : Register). words_of (Instruction.Return q) 0) (rw append-nil at (register_back r []))
 back a words (Instruction.Flags change m) ha h l e =
     flags_back a (word words) h.word_fits ∙ ap (λ (w : ℕ). w ∷ 0 ∷ 0 ∷ []) (sym e)
 back a words (Instruction.SwapBytes d) ha h l e =

@@ -1,6 +1,6 @@
 -- Words that a listing does not show do not matter to it.
-use Rattle.std.proofs.Common.{◌≡◌, ℕ, ◌+◌, Bool, true, false, cond, ltb, List, [], ◌∷◌, ◌++◌, codes, refl, ap, ap₂}
-use borrow.Author.Tests.{clash}
+use Rattle.std.proofs.Common.{◌≡◌, ℕ, ◌+◌, Bool, true, false, cond, ltb, List, [], ◌∷◌, ◌++◌, codes, refl, ap, ap₂, arith}
+use Rattle.std.proofs.lemmas.Bool.Decides.{nat_tests}
 use Rattle.isa.specs.declared.operand.Operand.{Operand}
 use Rattle.isa.specs.declared.operand.Operand.TheVariants.{Direct, Deferred, Increment, IncrementDeferred, Decrement, DecrementDeferred, Index, IndexDeferred}
 use Rattle.isa.specs.declared.instruction.Instruction.{Instruction}
@@ -13,44 +13,35 @@ use Rattle.listing.specs.Text.{octal, operand_text, operands_text, behind, pair,
 abbrev pub shown_of : ℕ → List ℕ → List ℕ
 shown_of k words = word words ∷ cond (ltb 0 k) (first words) 0 ∷ cond (ltb 1 k) (second words) 0 ∷ []
 
+same_when : {X : Type 0} (b : Bool) (x y z : X) → (b ≡ true → x ≡ y) → cond b x z ≡ cond b y z
+same_when true x y z h = h refl
+same_when false x y z h = refl
+
 -- an operand that takes no word shows none
 operand_same : (o : Operand) (m n : ℕ) → (takes_word o ≡ true → m ≡ n) → operand_text o m ≡ operand_text o n
 operand_same (Direct r) m n h = refl
 operand_same (Deferred r) m n h = refl
-operand_same (Increment r) m n h = go (is_pc r) h
-  where
-    go : (b : Bool) → (b ≡ true → m ≡ n) → cond b (codes "#" ++ octal m) (codes "(" ++ (register_name r ++ codes ")+")) ≡ cond b (codes "#" ++ octal n) (codes "(" ++ (register_name r ++ codes ")+"))
-    go true h = ap (λ k. codes "#" ++ octal k) (h refl)
-    go false h = refl
-operand_same (IncrementDeferred r) m n h = go (is_pc r) h
-  where
-    go : (b : Bool) → (b ≡ true → m ≡ n) → cond b (codes "@#" ++ octal m) (codes "@(" ++ (register_name r ++ codes ")+")) ≡ cond b (codes "@#" ++ octal n) (codes "@(" ++ (register_name r ++ codes ")+"))
-    go true h = ap (λ k. codes "@#" ++ octal k) (h refl)
-    go false h = refl
+operand_same (Increment r) m n h = same_when (is_pc r) _ _ _ (λ e. ap (λ k. codes "#" ++ octal k) (h e))
+operand_same (IncrementDeferred r) m n h = same_when (is_pc r) _ _ _ (λ e. ap (λ k. codes "@#" ++ octal k) (h e))
 operand_same (Decrement r) m n h = refl
 operand_same (DecrementDeferred r) m n h = refl
 operand_same (Index r) m n h = ap (operand_text (Index r)) (h refl)
 operand_same (IndexDeferred r) m n h = ap (operand_text (IndexDeferred r)) (h refl)
 
 one_taken : (b : Bool) (x : ℕ) → b ≡ true → cond (ltb 0 (bit b + 0)) x 0 ≡ x
-one_taken true x e = refl
-one_taken false x e = absurd (clash e)
+one_taken b x e = rw e
 
 -- one operand
 one_same : (d : Operand) (x : ℕ) → operand_text d (cond (ltb 0 (bit (takes_word d) + 0)) x 0) ≡ operand_text d x
 one_same d x = operand_same d (cond (ltb 0 (bit (takes_word d) + 0)) x 0) x (one_taken (takes_word d) x)
 
 source_taken : (b c : Bool) (x : ℕ) → b ≡ true → cond (ltb 0 (bit b + (bit c + 0))) x 0 ≡ x
-source_taken true true x e = refl
-source_taken true false x e = refl
-source_taken false c x e = absurd (clash e)
+source_taken b c x e = grind (arith, nat_tests)
 
 destination-taken
     : (b c : Bool) (x y : ℕ) → c ≡ true →
     cond b (cond (ltb 1 (bit b + (bit c + 0))) y 0) (cond (ltb 0 (bit b + (bit c + 0))) x 0) ≡ cond b y x
-destination-taken true true x y e = refl
-destination-taken false true x y e = refl
-destination-taken b false x y e = absurd (clash e)
+destination-taken b c x y e = grind (arith, nat_tests)
 
 -- two operands
 two-same
