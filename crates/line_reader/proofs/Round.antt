@@ -1,6 +1,8 @@
 -- The line of a listing is taken for the words that it shows.
-use Rattle.std.proofs.Common.{◌≡◌, ℕ, ◌+◌, ◌%◌, ◌<◌, Bool, true, false, cond, eqb, ltb, List, [], ◌∷◌, ◌++◌, length, drop, ℤ, pos, negsuc, codes, sym, refl, ap, ◌∙◌, inl, inr, append-nil, suc-add, arith, ltb-true, eqb-true}
+use Rattle.std.proofs.Common.{◌≡◌, ℕ, ◌+◌, ◌%◌, ◌<◌, ◌≤◌, Bool, true, cond, eqb, ltb, List, [], ◌∷◌, ◌++◌, drop, ℤ, pos, negsuc, codes, sym, refl, ap, ◌∙◌, inl, inr, append-nil, mod-eq_of_lt, arith, ltb-true, eqb-true}
+use Rattle.std.proofs.Math.Seq.{drop-append-add}
 use Rattle.std.proofs.lemmas.Bool.{cond_both}
+use Rattle.std.proofs.lemmas.Bool.Decides.{nat_tests}
 use Rattle.isa.specs.declared.operand.Register.{Register}
 use Rattle.isa.specs.declared.operand.Operand.{Operand}
 use Rattle.isa.specs.declared.instruction.Size.{Size}
@@ -13,7 +15,7 @@ use Rattle.isa.specs.Word as code
 use Rattle.isa.specs.Word.{bit}
 use Rattle.isa_laws.specs.OneReading.{listed, in_byte}
 use Rattle.isa_laws.proofs.Readings.{reads_back}
-use Rattle.listing.specs.Names.{register_name, condition_name}
+use Rattle.listing.specs.Names.{register_name, single_name, double_name, condition_name, byte_mark}
 use Rattle.listing.specs.Listing.{text}
 use Rattle.listing.specs.Text.{octal, operand_text, operands_text, behind, pair, unnamed, flag_text, branch_target, loop_target, word, first, second, instruction_text}
 use Rattle.line_reader.specs.declared.parsed.Parsed.{Parsed}
@@ -37,62 +39,55 @@ abbrev taken_by : Instruction → ℕ → ℕ → List ℕ
 taken_by i x y = code.word i ∷ cond (ltb 0 (further_words i)) x 0 ∷ cond (ltb 1 (further_words i)) y 0 ∷ []
 
 one_word : (b : Bool) (w x y : ℕ) → ◌≡◌ {A = List ℕ} (w ∷ cond b x 0 ∷ 0 ∷ []) (w ∷ cond (ltb 0 (bit b + 0)) x 0 ∷ cond (ltb 1 (bit b + 0)) y 0 ∷ [])
-one_word true w x y = refl
-one_word false w x y = refl
+one_word b w x y = grind (arith, nat_tests)
 
 two-words
     : (b c : Bool) (w x y : ℕ) →
     ◌≡◌ {A = List ℕ}
     (w ∷ cond b (cond b x 0) (cond c (cond b y x) 0) ∷ cond b (cond c (cond b y x) 0) 0 ∷ [])
     (w ∷ cond (ltb 0 (bit b + (bit c + 0))) x 0 ∷ cond (ltb 1 (bit b + (bit c + 0))) y 0 ∷ [])
-two-words true true w x y = refl
-two-words true false w x y = refl
-two-words false true w x y = refl
-two-words false false w x y = refl
+two-words b c w x y = grind (arith, nat_tests)
 
 -- one operand
 one-back
-    : (a : ℕ) (name : OneOperand) (z : Size) (d : Operand) (x y : ℕ) (s : List ℕ) → x < 65536 →
-    Opens s z (operand_text d x) (Mnemonic.One name) →
-    candidate a s ≡ code.word (one_instruction name z d) ∷ cond (ltb 0 (bit (takes_word d) + 0)) x 0 ∷ cond (ltb 1 (bit (takes_word d) + 0)) y 0 ∷ []
-one-back a name z d x y s hx o =
-    opened a s z (operand_text d x) (Mnemonic.One name) o
+    : (a : ℕ) (m : List ℕ) (name : OneOperand) (z : Size) (d : Operand) (x y : ℕ) → x < 65536 →
+    Opens (behind m (operand_text d x)) z (operand_text d x) (Mnemonic.One name) →
+    candidate a (behind m (operand_text d x))
+    ≡ code.word (one_instruction name z d) ∷ cond (ltb 0 (bit (takes_word d) + 0)) x 0 ∷ cond (ltb 1 (bit (takes_word d) + 0)) y 0 ∷ []
+one-back a m name z d x y hx o =
+    opened a (behind m (operand_text d x)) z (operand_text d x) (Mnemonic.One name) o
     ∙ ap (λ (p : Parsed). words_of (one_instruction name z p.operand) p.number) (operand_alone d x hx)
     ∙ one_word (takes_word d) (code.word (one_instruction name z d)) x y
 
 -- a register and an operand
 register-operand-back
-    : (a : ℕ) (name : RegisterFirst) (z : Size) (r : Register) (d : Operand) (x y : ℕ) (s : List ℕ) → x < 65536 →
-    Opens s z (pair (register_name r) (operand_text d x)) (Mnemonic.Register name) →
-    candidate a s
+    : (a : ℕ) (m : List ℕ) (name : RegisterFirst) (z : Size) (r : Register) (d : Operand) (x y : ℕ) → x < 65536 →
+    Opens (behind m (pair (register_name r) (operand_text d x))) z (pair (register_name r) (operand_text d x)) (Mnemonic.Register name) →
+    candidate a (behind m (pair (register_name r) (operand_text d x)))
     ≡ code.word (register_instruction name r d) ∷ cond (ltb 0 (bit (takes_word d) + 0)) x 0 ∷ cond (ltb 1 (bit (takes_word d) + 0)) y 0 ∷ []
-register-operand-back a name z r d x y s hx o =
+register-operand-back a m name z r d x y hx o =
     let t = pair (register_name r) (operand_text d x) in
-    opened a s z t (Mnemonic.Register name) o
+    opened a (behind m t) z t (Mnemonic.Register name) o
     ∙ ap (λ (q : Register). words_of (register_instruction name q (operand_in (drop 3 t)).operand) (operand_in (drop 3 t)).number) (register_back r (44 ∷ operand_text d x))
     ∙ ap (λ (p : Parsed). words_of (register_instruction name r p.operand) p.number) (ap operand_in (behind_register r (operand_text d x)) ∙ operand_alone d x hx)
     ∙ one_word (takes_word d) (code.word (register_instruction name r d)) x y
 
-drop-front : (xs ys : List ℕ) (c : ℕ) → drop (length xs + 1) (xs ++ (c ∷ ys)) ≡ ys
-drop-front [] ys c = refl
-drop-front (x ∷ xs) ys c = rw suc-add (drop-front xs ys c)
-
 -- two operands
 two_back
-    : (a : ℕ) (name : TwoOperands) (z : Size) (s d : Operand) (x y : ℕ) (line : List ℕ) → x < 65536 → y < 65536 →
-    Opens line z (operands_text s d x y) (Mnemonic.Two name) →
-    candidate a line
+    : (a : ℕ) (m : List ℕ) (name : TwoOperands) (z : Size) (s d : Operand) (x y : ℕ) → x < 65536 → y < 65536 →
+    Opens (behind m (operands_text s d x y)) z (operands_text s d x y) (Mnemonic.Two name) →
+    candidate a (behind m (operands_text s d x y))
     ≡ code.word (two_instruction name z s d)
     ∷ cond (ltb 0 (bit (takes_word s) + (bit (takes_word d) + 0))) x 0
     ∷ cond (ltb 1 (bit (takes_word s) + (bit (takes_word d) + 0))) y 0
     ∷ []
-two_back a name z s d x y line hx hy o =
+two_back a m name z s d x y hx hy o =
     let n = cond (takes_word s) y x in
     let D = operand_text d n in
     let t = operand_text s x ++ (44 ∷ D) in
-    opened a line z t (Mnemonic.Two name) o
+    opened a (behind m t) z t (Mnemonic.Two name) o
     ∙ ap (λ (p : Parsed). pair_words name z p (operand_in (drop (p.length + 1) t))) (operand-back s x (44 ∷ D) hx refl)
-    ∙ ap (λ (l : List ℕ). pair_words name z (parsed_of s x) (operand_in l)) (drop-front (operand_text s x) D 44)
+    ∙ ap (λ (l : List ℕ). pair_words name z (parsed_of s x) (operand_in l)) (drop-append-add (operand_text s x) (44 ∷ D) 1)
     ∙ ap (pair_words name z (parsed_of s x)) (operand_alone d n (cond_both (takes_word s) y x (λ k. k < 65536) (λ e. hy) (λ e. hx)))
     ∙ two-words (takes_word s) (takes_word d) (code.word (two_instruction name z s d)) x y
 
@@ -101,14 +96,23 @@ number_alone : (n : ℕ) → n < 65536 → number_in (octal n) ≡ n
 number_alone n hn = number_back n [] hn
 
 numbered-back
-    : (a : ℕ) (name : Numbered) (z : Size) (n : ℕ) (s : List ℕ) → n < 65536 →
-    Opens s z (octal n) (Mnemonic.Number name) → candidate a s ≡ numbered_words name n
-numbered-back a name z n s hn o =
-    opened a s z (octal n) (Mnemonic.Number name) o ∙ ap (numbered_words name) (number_alone n hn)
+    : (a : ℕ) (m : List ℕ) (name : Numbered) (n : ℕ) → n < 65536 →
+    Opens (behind m (octal n)) Word (octal n) (Mnemonic.Number name) → candidate a (behind m (octal n)) ≡ numbered_words name n
+numbered-back a m name n hn o =
+    opened a (behind m (octal n)) Word (octal n) (Mnemonic.Number name) o ∙ ap (numbered_words name) (number_alone n hn)
+
+-- a number that an instruction holds whole, below a bound
+counted-back
+    : (a : ℕ) (m : List ℕ) (name : Numbered) (i : ℕ → Instruction) (most n : ℕ) → most ≤ 0o400 → ltb n most ≡ true →
+    numbered_words name n ≡ words_of (i (n % most)) 0 → Opens (behind m (octal n)) Word (octal n) (Mnemonic.Number name) →
+    candidate a (behind m (octal n)) ≡ words_of (i n) 0
+counted-back a m name i most n hm l e o =
+    let lt = ltb-true n most l in
+    numbered-back a m name n (omega arith) o ∙ e ∙ ap (λ (k : ℕ). words_of (i k) 0) (mod-eq_of_lt lt)
 
 unnamed_back : (a w : ℕ) → w < 65536 → candidate a (unnamed w) ≡ w ∷ 0 ∷ 0 ∷ []
 unfolding mnemonic_in
-unnamed_back a w hw = numbered-back a Numbered.Data Word w (unnamed w) hw (refl, refl, refl)
+unnamed_back a w hw = numbered-back a (codes ".WORD") Numbered.Data w hw (refl, refl, refl)
 
 -- one row of the flag words that have names
 flag-row
@@ -167,48 +171,36 @@ back
 unfolding mnemonic_in
 back a words (Instruction.Control c) ha h l e = control_back a c
 back a words (Instruction.Jump d) ha h l e =
-    one-back a OneOperand.Jump Word d (first words) (second words) (instruction_text a words (Instruction.Jump d)) h.first_fits (refl, refl, refl)
+    one-back a (codes "JMP") OneOperand.Jump Word d (first words) (second words) h.first_fits (refl, refl, refl)
 back a words (Instruction.Return r) ha h l e = ap (λ (q : Register). words_of (Instruction.Return q) 0) (rw append-nil at (register_back r []))
 back a words (Instruction.Flags change m) ha h l e =
     flags_back a (word words) h.word_fits ∙ ap (λ (w : ℕ). w ∷ 0 ∷ 0 ∷ []) (sym e)
 back a words (Instruction.SwapBytes d) ha h l e =
-    one-back a OneOperand.SwapBytes Byte d (first words) (second words) (instruction_text a words (Instruction.SwapBytes d)) h.first_fits (refl, refl, refl)
+    one-back a (codes "SWAB") OneOperand.SwapBytes Byte d (first words) (second words) h.first_fits (refl, refl, refl)
 back a words (Instruction.Branch c z) ha h l e = branch-line-back a c z ha l
 back a words (Instruction.Call r d) ha h l e =
-    register-operand-back a RegisterFirst.Call Word r d (first words) (second words) (instruction_text a words (Instruction.Call r d)) h.first_fits (refl, refl, refl)
+    register-operand-back a (codes "JSR") RegisterFirst.Call Word r d (first words) (second words) h.first_fits (refl, refl, refl)
 back a words (Instruction.Single size o d) ha h l e =
-    one-back a (OneOperand.Single o) size d (first words) (second words) (instruction_text a words (Instruction.Single size o d)) h.first_fits (single_opens size o (operand_text d (first words)))
-back a words (Instruction.Mark n) ha h l e =
-    let lt = ltb-true n 0o100 l in
-    let m : n % 0o100 ≡ n = omega arith in
-    numbered-back a Numbered.Mark Word n (instruction_text a words (Instruction.Mark n)) (omega arith) (refl, refl, refl)
-    ∙ ap (λ (k : ℕ). words_of (Instruction.Mark k) 0) m
+    one-back a (single_name o ++ byte_mark size) (OneOperand.Single o) size d (first words) (second words) h.first_fits (single_opens size o (operand_text d (first words)))
+back a words (Instruction.Mark n) ha h l e = counted-back a (codes "MARK") Numbered.Mark Instruction.Mark 0o100 n (omega arith) l refl (refl, refl, refl)
 back a words (Instruction.SignExtend d) ha h l e =
-    one-back a OneOperand.SignExtend Word d (first words) (second words) (instruction_text a words (Instruction.SignExtend d)) h.first_fits (refl, refl, refl)
+    one-back a (codes "SXT") OneOperand.SignExtend Word d (first words) (second words) h.first_fits (refl, refl, refl)
 back a words (Instruction.ToStatus d) ha h l e =
-    one-back a OneOperand.ToStatus Word d (first words) (second words) (instruction_text a words (Instruction.ToStatus d)) h.first_fits (refl, refl, refl)
+    one-back a (codes "MTPS") OneOperand.ToStatus Word d (first words) (second words) h.first_fits (refl, refl, refl)
 back a words (Instruction.FromStatus d) ha h l e =
-    one-back a OneOperand.FromStatus Word d (first words) (second words) (instruction_text a words (Instruction.FromStatus d)) h.first_fits (refl, refl, refl)
+    one-back a (codes "MFPS") OneOperand.FromStatus Word d (first words) (second words) h.first_fits (refl, refl, refl)
 back a words (Instruction.Double size o s d) ha h l e =
-    two_back a (TwoOperands.Double o) size s d (first words) (second words) (instruction_text a words (Instruction.Double size o s d)) h.first_fits h.second_fits
+    two_back a (double_name o ++ byte_mark size) (TwoOperands.Double o) size s d (first words) (second words) h.first_fits h.second_fits
     (double_opens size o (operands_text s d (first words) (second words)))
 back a words (Instruction.Add s d) ha h l e =
-    two_back a TwoOperands.Add Word s d (first words) (second words) (instruction_text a words (Instruction.Add s d)) h.first_fits h.second_fits (refl, refl, refl)
+    two_back a (codes "ADD") TwoOperands.Add Word s d (first words) (second words) h.first_fits h.second_fits (refl, refl, refl)
 back a words (Instruction.Subtract s d) ha h l e =
-    two_back a TwoOperands.Subtract Word s d (first words) (second words) (instruction_text a words (Instruction.Subtract s d)) h.first_fits h.second_fits (refl, refl, refl)
+    two_back a (codes "SUB") TwoOperands.Subtract Word s d (first words) (second words) h.first_fits h.second_fits (refl, refl, refl)
 back a words (Instruction.ExclusiveOr r d) ha h l e =
-    register-operand-back a RegisterFirst.ExclusiveOr Word r d (first words) (second words) (instruction_text a words (Instruction.ExclusiveOr r d)) h.first_fits (refl, refl, refl)
+    register-operand-back a (codes "XOR") RegisterFirst.ExclusiveOr Word r d (first words) (second words) h.first_fits (refl, refl, refl)
 back a words (Instruction.Loop r n) ha h l e = loop-line-back a r n ha (ltb-true n 0o100 l)
-back a words (Instruction.Emulate n) ha h l e =
-    let lt = ltb-true n 0o400 l in
-    let m : n % 0o400 ≡ n = omega arith in
-    numbered-back a Numbered.Emulate Word n (instruction_text a words (Instruction.Emulate n)) (omega arith) (refl, refl, refl)
-    ∙ ap (λ (k : ℕ). words_of (Instruction.Emulate k) 0) m
-back a words (Instruction.Trap n) ha h l e =
-    let lt = ltb-true n 0o400 l in
-    let m : n % 0o400 ≡ n = omega arith in
-    numbered-back a Numbered.Trap Word n (instruction_text a words (Instruction.Trap n)) (omega arith) (refl, refl, refl)
-    ∙ ap (λ (k : ℕ). words_of (Instruction.Trap k) 0) m
+back a words (Instruction.Emulate n) ha h l e = counted-back a (codes "EMT") Numbered.Emulate Instruction.Emulate 0o400 n (omega arith) l refl (refl, refl, refl)
+back a words (Instruction.Trap n) ha h l e = counted-back a (codes "TRAP") Numbered.Trap Instruction.Trap 0o400 n (omega arith) l refl (refl, refl, refl)
 back a words (Instruction.Reserved n) ha h l e =
     unnamed_back a (word words) h.word_fits ∙ ap (λ (w : ℕ). w ∷ 0 ∷ 0 ∷ []) (sym e)
 
