@@ -25,19 +25,17 @@ struct Part {
 
 // The part that the arguments name.
 fn asked_part(rt: &HostRuntime) -> Result<Part, Fault> {
-    let mut part = Part {
-        address: FIRST_ADDRESS,
-        count: FEW_INSTRUCTIONS,
-    };
-    for (place, argument) in env::args(rt)?.enumerate() {
-        match place {
-            0 => (),
-            1 => part.address = parse_address(argument.as_str())?,
-            2 => part.count = parse_count(argument.as_str())?,
-            _ => return Err(Fault::Arguments),
-        }
+    let mut arguments = env::args(rt)?.skip(1);
+    let address = arguments
+        .next()
+        .map_or(Ok(FIRST_ADDRESS), |text| parse_address(text.as_str()))?;
+    let count = arguments
+        .next()
+        .map_or(Ok(FEW_INSTRUCTIONS), |text| parse_count(text.as_str()))?;
+    if arguments.next().is_some() {
+        return Err(Fault::Arguments);
     }
-    Ok(part)
+    Ok(Part { address, count })
 }
 
 // Prints a line for each instruction of the part.

@@ -29,7 +29,7 @@ pub fn row_at(image: &Image, address: u16) -> Row
     ensures listing { shown result.line ≡ text address (words_at image.now address) }
 {
     let words = words_at(image, address);
-    let used = 1 + decode(words[0]).further_words() as usize;
+    let used = 1 + usize::from(decode(words[0]).further_words());
     let line = line_of(address, words);
     Row {
         address,

@@ -20,20 +20,21 @@ fn unnamed_line(word: u16) -> Line
 fn flag_line(word: u16) -> Line
     ensures { shown result ≡ flag_text word }
 {
-    match word {
-        0o240 => Line::named("NOP"),
-        0o241 => Line::named("CLC"),
-        0o242 => Line::named("CLV"),
-        0o244 => Line::named("CLZ"),
-        0o250 => Line::named("CLN"),
-        0o257 => Line::named("CCC"),
-        0o261 => Line::named("SEC"),
-        0o262 => Line::named("SEV"),
-        0o264 => Line::named("SEZ"),
-        0o270 => Line::named("SEN"),
-        0o277 => Line::named("SCC"),
-        _ => unnamed_line(word),
-    }
+    let name = match word {
+        0o240 => "NOP",
+        0o241 => "CLC",
+        0o242 => "CLV",
+        0o244 => "CLZ",
+        0o250 => "CLN",
+        0o257 => "CCC",
+        0o261 => "SEC",
+        0o262 => "SEV",
+        0o264 => "SEZ",
+        0o270 => "SEN",
+        0o277 => "SCC",
+        _ => return unnamed_line(word),
+    };
+    Line::named(name)
 }
 
 // The two operands of an instruction: the destination takes the first index word that the source leaves.
@@ -70,7 +71,7 @@ pub(crate) fn instruction_line(address: u16, words: [u16; 3], instruction: Instr
             .with(operation)
             .with(size)
             .behind((d, first)),
-        Instruction::Mark(count) => Line::named("MARK").behind(count as u16),
+        Instruction::Mark(count) => Line::named("MARK").behind(u16::from(count)),
         Instruction::SignExtend(d) => Line::named("SXT").behind((d, first)),
         Instruction::ToStatus(s) => Line::named("MTPS").behind((s, first)),
         Instruction::FromStatus(d) => Line::named("MFPS").behind((d, first)),
@@ -89,8 +90,8 @@ pub(crate) fn instruction_line(address: u16, words: [u16; 3], instruction: Instr
         Instruction::Loop(register, count) => {
             Line::named("SOB").behind(Pair(register, loop_target(address, count)))
         }
-        Instruction::Emulate(number) => Line::named("EMT").behind(number as u16),
-        Instruction::Trap(number) => Line::named("TRAP").behind(number as u16),
+        Instruction::Emulate(number) => Line::named("EMT").behind(u16::from(number)),
+        Instruction::Trap(number) => Line::named("TRAP").behind(u16::from(number)),
         Instruction::Reserved(_) => unnamed_line(word),
     }
 }

@@ -38,6 +38,6 @@ pub fn list(address: u16, words: [u16; 3], out: &mut [u8]) -> Result<Listed, Ref
         return Err(Refusal::ShortOutput);
     }
     let length = line.copy_to(out);
-    let words = 1 + decode(words[0]).further_words() as usize;
+    let words = 1 + usize::from(decode(words[0]).further_words());
     Ok(Listed { length, words })
 }

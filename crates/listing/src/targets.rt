@@ -15,5 +15,5 @@ pub(crate) fn branch_target(address: u16, offset: i8) -> u16
 pub(crate) fn loop_target(address: u16, count: u8) -> u16
     ensures { result ≡ loop_target address count }
 {
-    address.wrapping_add(2).wrapping_sub(2 * count as u16)
+    address.wrapping_add(2).wrapping_sub(2 * u16::from(count))
 }
