@@ -1,5 +1,5 @@
 -- Numbers, targets and registers of a listing are read back.
-use Rattle.std.proofs.Common.{◌≡◌, ℕ, ◌+◌, ◌-◌, ◌*◌, ◌/◌, ◌%◌, ◌<◌, true, List, ◌∷◌, ◌++◌, drop, ℤ, pos, negsuc, refl, arith, ltb-true}
+use Rattle.std.proofs.Common.{◌≡◌, ℕ, ◌+◌, ◌-◌, ◌*◌, ◌/◌, ◌%◌, ◌<◌, true, List, ◌∷◌, ◌++◌, drop, ℤ, pos, negsuc, arith, ltb-true}
 use Rattle.std.proofs.lemmas.Bool.Decides.{nat_tests}
 use Rattle.isa.specs.declared.operand.Register.{Register}
 use Rattle.isa.specs.declared.operand.Register.TheVariants.{R0, R1, R2, R3, R4, R5, Sp, Pc}
@@ -36,11 +36,11 @@ each_register P a b c d e f g h Sp = g
 each_register P a b c d e f g h Pc = h
 
 pub register_back : (r : Register) (rest : List ℕ) → register_in (register_name r ++ rest) ≡ r
-register_back r rest = each_register (λ k. register_in (register_name k ++ rest) ≡ k) refl refl refl refl refl refl refl refl r
+register_back r rest = grind arith
 
 -- behind a register and a comma
 pub behind_register : (r : Register) (rest : List ℕ) → drop 3 (register_name r ++ (44 ∷ rest)) ≡ rest
-behind_register r rest = each_register (λ k. drop 3 (register_name k ++ (44 ∷ rest)) ≡ rest) refl refl refl refl refl refl refl refl r
+behind_register r rest = grind arith
 
 -- a branch is read back from its target
 pub branch_back : (a : ℕ) (z : ℤ) → a < 65536 → in_byte z ≡ true → offset_to a (branch_target a z) ≡ z

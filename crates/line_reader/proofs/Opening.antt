@@ -1,15 +1,10 @@
 -- The front of a line of a listing: its mnemonic, its size and what stands behind them.
-use Rattle.std.proofs.Common.{◌≡◌, ℕ, List, ◌++◌, refl, ap, ◌∙◌}
+use Rattle.std.proofs.Common.{◌≡◌, ℕ, List, ◌++◌, ap, ◌∙◌, arith, rules}
 use Rattle.isa.specs.declared.instruction.Size.{Size}
-use Rattle.isa.specs.declared.instruction.Size.TheVariants.{Word, Byte}
 use Rattle.isa.specs.declared.instruction.Control.{Control}
-use Rattle.isa.specs.declared.instruction.Control.TheVariants.{Halt, Wait, Rti, Bpt, Iot, Reset, Rtt}
 use Rattle.isa.specs.declared.instruction.SingleOperation.{SingleOperation}
-use Rattle.isa.specs.declared.instruction.SingleOperation.TheVariants.{Clr, Com, Inc, Dec, Neg, Adc, Sbc, Tst, Ror, Rol, Asr, Asl}
 use Rattle.isa.specs.declared.instruction.DoubleOperation.{DoubleOperation}
-use Rattle.isa.specs.declared.instruction.DoubleOperation.TheVariants.{Mov, Cmp, Bit, Bic, Bis}
 use Rattle.isa.specs.declared.instruction.Condition.{Condition}
-use Rattle.isa.specs.declared.instruction.Condition.TheVariants.{Br, Bne, Beq, Bge, Blt, Bgt, Ble, Bpl, Bmi, Bhi, Blos, Bvc, Bvs, Bcc, Bcs}
 use Rattle.isa.specs.declared.instruction.Instruction.{Instruction}
 use Rattle.listing.specs.Names.{single_name, double_name, condition_name, control_name, byte_mark}
 use Rattle.listing.specs.Text.{behind}
@@ -33,69 +28,17 @@ opened a s z t m o =
 
 pub single_opens : (z : Size) (o : SingleOperation) (t : List ℕ) → Opens (behind (single_name o ++ byte_mark z) t) z t (Mnemonic.One (OneOperand.Single o))
 unfolding mnemonic_in
-single_opens Word Clr t = (refl, refl, refl)
-single_opens Byte Clr t = (refl, refl, refl)
-single_opens Word Com t = (refl, refl, refl)
-single_opens Byte Com t = (refl, refl, refl)
-single_opens Word Inc t = (refl, refl, refl)
-single_opens Byte Inc t = (refl, refl, refl)
-single_opens Word Dec t = (refl, refl, refl)
-single_opens Byte Dec t = (refl, refl, refl)
-single_opens Word Neg t = (refl, refl, refl)
-single_opens Byte Neg t = (refl, refl, refl)
-single_opens Word Adc t = (refl, refl, refl)
-single_opens Byte Adc t = (refl, refl, refl)
-single_opens Word Sbc t = (refl, refl, refl)
-single_opens Byte Sbc t = (refl, refl, refl)
-single_opens Word Tst t = (refl, refl, refl)
-single_opens Byte Tst t = (refl, refl, refl)
-single_opens Word Ror t = (refl, refl, refl)
-single_opens Byte Ror t = (refl, refl, refl)
-single_opens Word Rol t = (refl, refl, refl)
-single_opens Byte Rol t = (refl, refl, refl)
-single_opens Word Asr t = (refl, refl, refl)
-single_opens Byte Asr t = (refl, refl, refl)
-single_opens Word Asl t = (refl, refl, refl)
-single_opens Byte Asl t = (refl, refl, refl)
+single_opens z o t = grind arith
 
 pub double_opens : (z : Size) (o : DoubleOperation) (t : List ℕ) → Opens (behind (double_name o ++ byte_mark z) t) z t (Mnemonic.Two (TwoOperands.Double o))
 unfolding mnemonic_in
-double_opens Word Mov t = (refl, refl, refl)
-double_opens Byte Mov t = (refl, refl, refl)
-double_opens Word Cmp t = (refl, refl, refl)
-double_opens Byte Cmp t = (refl, refl, refl)
-double_opens Word Bit t = (refl, refl, refl)
-double_opens Byte Bit t = (refl, refl, refl)
-double_opens Word Bic t = (refl, refl, refl)
-double_opens Byte Bic t = (refl, refl, refl)
-double_opens Word Bis t = (refl, refl, refl)
-double_opens Byte Bis t = (refl, refl, refl)
+double_opens z o t = grind arith
 
 -- the size of a branch does not matter: behind BR it is what the number begins with
 pub branch_opens : (c : Condition) (t : List ℕ) → Opens (behind (condition_name c) t) (size_in (behind (condition_name c) t)) t (Mnemonic.Branch c)
 unfolding mnemonic_in
-branch_opens Br t = (refl, refl, refl)
-branch_opens Bne t = (refl, refl, refl)
-branch_opens Beq t = (refl, refl, refl)
-branch_opens Bge t = (refl, refl, refl)
-branch_opens Blt t = (refl, refl, refl)
-branch_opens Bgt t = (refl, refl, refl)
-branch_opens Ble t = (refl, refl, refl)
-branch_opens Bpl t = (refl, refl, refl)
-branch_opens Bmi t = (refl, refl, refl)
-branch_opens Bhi t = (refl, refl, refl)
-branch_opens Blos t = (refl, refl, refl)
-branch_opens Bvc t = (refl, refl, refl)
-branch_opens Bvs t = (refl, refl, refl)
-branch_opens Bcc t = (refl, refl, refl)
-branch_opens Bcs t = (refl, refl, refl)
+branch_opens c t = grind arith
 
 pub control_back : (a : ℕ) (c : Control) → candidate a (control_name c) ≡ words_of (Instruction.Control c) 0
 unfolding mnemonic_in
-control_back a Halt = refl
-control_back a Wait = refl
-control_back a Rti = refl
-control_back a Bpt = refl
-control_back a Iot = refl
-control_back a Reset = refl
-control_back a Rtt = refl
+control_back a c = search rules
