@@ -1,6 +1,6 @@
 -- What a passed check tells of a reader that stands in the capture.
 use Rattle.std.proofs.Common.{◌≡◌, ℕ, zero, suc, ◌+◌, ◌-◌, ◌*◌, ◌/◌, ◌%◌, ◌<◌, ◌≤◌, Bool, true, false, cond, eqb, leb, List, [], ◌∷◌, map, length, get_or, take, drop, is_ok, Ok, Err, Result, sym, refl, ap, ◌∙◌, inl, inr, arith}
-use Rattle.std.proofs.lemmas.List.{drop_all, take_rest, drop-drop, length-take, length-drop}
+use Rattle.std.proofs.lemmas.List.{drop_all, drop-drop, length-take, length-drop}
 use Rattle.std.proofs.lemmas.Bool.{false≢true, cond-true, eqb-true, leb-true, cases_lt}
 use Rattle.std.specs.List.{AllByRecursion}
 use Rattle.capture.specs.declared.refusal.Refusal.{Refusal}
@@ -11,8 +11,10 @@ use Rattle.capture.specs.Records.{Entry, numbers, unnumbers, first_plain, first_
 use Rattle.capture.specs.Lawful.{lawful, fits_within}
 use Rattle.capture.specs.Checking.{Answer, one_read, before, and_then, read_then, used_bytes, block_then, read_from, read_capture, whole_blocks, entries, verdict}
 use Rattle.capture.specs.Remaining.{block_at, remains}
+use Rattle.capture.specs.declared.feed.Feed.{Feed}
+use Rattle.capture.specs.Feeds.{left, Stands}
 use Rattle.capture.proofs.Matching.{both_parts}
-use Rattle.capture.proofs.Walks.{read_at, read_more, block_then_lem}
+use Rattle.capture.proofs.Walks.{read_first, read_more, block_then_lem}
 
 ok_gate : (t : Bool) (x : Answer) (e : Refusal) → is_ok (cond t x (Err e)) ≡ true → (t ≡ true) × (is_ok x ≡ true)
 ok_gate true x e h = (refl, h)
@@ -94,23 +96,26 @@ then_first : (x : Entry) (a : Answer) → is_ok a ≡ true → entries (before x
 then_first x (Ok ps) h = refl
 then_first x (Err e) h = absurd (false≢true h)
 
--- what a reader that stands at a record knows
-pub record Here (xs : List ℕ) (b at : ℕ) : Type 0 where
-  pub good : is_ok (one_read (drop at (used_bytes (block_at xs b)))) ≡ true
-  pub after : is_ok (remains xs b (at + (get_or (used_bytes (block_at xs b)) at 0 + 4))) ≡ true
-  pub left : entries (remains xs b at) ≡ first_entry (drop at (used_bytes (block_at xs b))) ∷ entries (remains xs b (at + (get_or (used_bytes (block_at xs b)) at 0 + 4)))
-
-pub here : (xs : List ℕ) (b at : ℕ) → at < length (used_bytes (block_at xs b)) → is_ok (remains xs b at) ≡ true → Here xs b at
-here xs b at h o =
+-- a feed's next record, where some of the record bytes of a block are left
+pub stands : (f : Feed) (b at : ℕ) (ys : List ℕ) → word_at (block_at f.bytes.now b) 2 ≤ 506 → ys ≡ drop at (used_bytes (block_at f.bytes.now b)) → 0 < length ys
+    → remains f.bytes.now b at ≡ remains f.bytes.now f.block f.from → Stands f b at ys
+stands f b at ys u e n s =
+    let xs : List ℕ = f.bytes.now in
     let body : List ℕ = used_bytes (block_at xs b) in
-    let rest : Answer = remains xs b (at + (get_or body at 0 + 4)) in
-    let r : remains xs b at ≡ and_then (one_read (drop at body)) rest = read_at body at _ h in
-    let p = split_then (one_read (drop at body)) rest (sym (ap is_ok r) ∙ o) in
-    let e : one_read (drop at body) ≡ Ok (first_entry (drop at body)) = one_ok (fits_within (drop at body)) (lawful (first_plain (drop at body))) (first_entry (drop at body)) _ _ p.0 in
+    let after : Answer = read_from (b + 1) (length xs / 512 - (b + 1)) (drop (512 * (b + 1)) xs) in
+    let rest : Answer = remains xs b (at + (get_or ys 0 0 + 4)) in
+    let d : drop (get_or ys 0 0 + 4) ys ≡ drop (at + (get_or ys 0 0 + 4)) body = ap (drop (get_or ys 0 0 + 4)) e ∙ drop-drop (get_or ys 0 0 + 4) at body in
+    let r : remains xs b at ≡ and_then (one_read ys) rest =
+    ap (λ (zs : List ℕ). read_then 0 zs after) (sym e) ∙ (read_first ys after n ∙ ap (λ (zs : List ℕ). and_then (one_read ys) (read_then 0 zs after)) d)
+    in
+    let p = split_then (one_read ys) rest (sym (ap is_ok r) ∙ (ap is_ok s ∙ f.passed)) in
+    let g : one_read ys ≡ Ok (first_entry ys) = one_ok (fits_within ys) (lawful (first_plain ys)) (first_entry ys) _ _ p.0 in
     record {
-      good = p.0;
-      after = p.1;
-      left = ap entries r ∙ (ap (λ (q : Result Entry Refusal). entries (and_then q rest)) e ∙ then_first (first_entry (drop at body)) rest p.1);
+      place = omega (arith, ap length e, length-drop at body, length-take (word_at (block_at xs b) 2) (drop 4 (block_at xs b)));
+      first = p.0;
+      short = u;
+      passed = p.1;
+      left = ap entries (sym s ∙ r) ∙ (ap (λ (q : Result Entry Refusal). entries (and_then q rest)) g ∙ then_first (first_entry ys) rest p.1);
     }
 
 ok_verdict : (r : Answer) → Ok tt ≡ verdict r → is_ok r ≡ true
@@ -134,26 +139,9 @@ checked xs h =
     let e : read_capture xs ≡ remains xs 0 0 = cond-true (whole_blocks (length xs)) _ (Err Blocks) g.0 ∙ (ap (λ (j : ℕ). read_from 0 j xs) (sym k) ∙ s.same) in
     record { whole = w; used = s.used; same = e; fine = sym (ap is_ok e) ∙ o }
 
--- the record that a settled reader hands out, in the words of the code
-pub record Found (xs : List ℕ) (b0 at0 b at : ℕ) (part : List ℕ) : Type 0 where
-  pub good : is_ok (one_read (take (length part - at) (drop at part))) ≡ true
-  pub after : is_ok (remains xs b (at + (get_or part at 0 + 4))) ≡ true
-  pub left : entries (remains xs b0 at0) ≡ first_entry (take (length part - at) (drop at part)) ∷ entries (remains xs b (at + (get_or part at 0 + 4)))
-
-pub found : (xs : List ℕ) (b0 at0 b at : ℕ) (part : List ℕ) → part ≡ used_bytes (block_at xs b) → at < length (used_bytes (block_at xs b)) → remains xs b at ≡ remains xs b0 at0 → is_ok (remains xs b0 at0) ≡ true
-    → Found xs b0 at0 b at part
-found xs b0 at0 b at part e h s o =
-    let k = here xs b at h (ap is_ok s ∙ o) in
-    let g : take (length part - at) (drop at part) ≡ drop at (used_bytes (block_at xs b)) = take_rest part at ∙ ap (λ (ys : List ℕ). drop at ys) e in
-    let n : at + (get_or (used_bytes (block_at xs b)) at 0 + 4) ≡ at + (get_or part at 0 + 4) = ap (λ (ys : List ℕ). at + (get_or ys at 0 + 4)) (sym e) in
-    record {
-      good = ap (λ (ys : List ℕ). is_ok (one_read ys)) g ∙ k.good;
-      after = ap (λ (j : ℕ). is_ok (remains xs b j)) (sym n) ∙ k.after;
-      left = ap entries (sym s) ∙ (k.left ∙ (ap (λ (ys : List ℕ). first_entry ys ∷ entries (remains xs b (at + (get_or (used_bytes (block_at xs b)) at 0 + 4)))) (sym g) ∙ ap (λ (j : ℕ). first_entry (take (length part - at) (drop at part)) ∷ entries (remains xs b j)) n));
-    }
-
-pub none_left : (xs : List ℕ) (b0 at0 b at : ℕ) → length xs % 512 ≡ 0 → length xs / 512 ≤ b → remains xs b at ≡ remains xs b0 at0 → entries (remains xs b0 at0) ≡ []
-none_left xs b0 at0 b at w h s = ap entries (sym s ∙ (past xs b at w h).1)
+-- past the last block no record is left
+pub none_left : (f : Feed) (b at : ℕ) → length f.bytes.now / 512 ≤ b → remains f.bytes.now b at ≡ remains f.bytes.now f.block f.from → left f ≡ []
+none_left f b at h s = ap entries (sym s ∙ (past f.bytes.now b at f.whole h).1)
 
 unnumbered : (xs : List Entry) → map unnumbers (map numbers xs) ≡ xs
 unnumbered [] = refl

@@ -1,32 +1,27 @@
 -- The check, one record and one block at a time.
 use Rattle.std.proofs.Common.{◌≡◌, ℕ, zero, suc, ◌+◌, ◌-◌, ◌*◌, ◌/◌, ◌%◌, ◌<◌, ◌≤◌, Bool, true, false, cond, eqb, ltb, leb, List, [], ◌∷◌, length, get_or, take, drop, Ok, Err, Result, sym, refl, ap, ◌∙◌, arith}
-use Rattle.std.proofs.lemmas.List.{drop_more, drop-drop}
+use Rattle.std.proofs.lemmas.List.{drop-drop}
 use Rattle.std.proofs.lemmas.Bool.{cond-true, eq-eqb, le-leb, lt-ltb}
+use Rattle.std.specs.Simd.{first_chunks}
 use Rattle.capture.specs.declared.refusal.Refusal.{Refusal}
 use Rattle.capture.specs.declared.refusal.Refusal.TheVariants.{Blocks, Number, Used, Checksum}
 use Rattle.capture.specs.Words.{word_at, both}
 use Rattle.capture.specs.Checksum.{block_sum}
 use Rattle.capture.specs.Records.{Entry}
 use Rattle.capture.specs.Checking.{Answer, one_read, before, and_then, read_then, used_bytes, block_then, read_from, read_capture, whole_blocks, head_answer, verdict, block_alone}
+use Rattle.capture.specs.Remaining.{block_at}
 
 pub read_skip : (k : ℕ) (xs : List ℕ) (rest : Answer) → read_then k xs rest ≡ read_then 0 (drop k xs) rest
 read_skip zero xs rest = refl
 read_skip (suc k) [] rest = refl
 read_skip (suc k) (x ∷ xs) rest = read_skip k xs rest
 
-on : (xs : List ℕ) (at : ℕ) → drop (get_or xs at 0 + 3) (drop (at + 1) xs) ≡ drop (at + (get_or xs at 0 + 4)) xs
-on xs at =
-    let e : (at + 1) + (get_or xs at 0 + 3) ≡ at + (get_or xs at 0 + 4) = omega arith in
-    drop-drop (get_or xs at 0 + 3) (at + 1) xs ∙ ap (λ (j : ℕ). drop j xs) e
-
--- the record at a place, and then what follows it
-pub read_at : (xs : List ℕ) (at : ℕ) (rest : Answer) → at < length xs
-    → read_then 0 (drop at xs) rest ≡ and_then (one_read (drop at xs)) (read_then 0 (drop (at + (get_or xs at 0 + 4)) xs) rest)
-read_at xs at rest h =
-    let d : drop at xs ≡ get_or xs at 0 ∷ drop (at + 1) xs = drop_more xs at 0 h in
-    ap (λ (ys : List ℕ). read_then 0 ys rest) d
-    ∙ (ap (λ (ys : List ℕ). and_then (one_read ys) (read_then (get_or xs at 0 + 3) (drop (at + 1) xs) rest)) (sym d)
-    ∙ ap (λ (q : Answer). and_then (one_read (drop at xs)) q) (read_skip (get_or xs at 0 + 3) (drop (at + 1) xs) rest ∙ ap (λ (ys : List ℕ). read_then 0 ys rest) (on xs at)))
+-- the first record, and then what follows it
+pub read_first : (xs : List ℕ) (rest : Answer) → 0 < length xs → read_then 0 xs rest ≡ and_then (one_read xs) (read_then 0 (drop (get_or xs 0 0 + 4) xs) rest)
+read_first [] rest h = absurd (omega arith)
+read_first (x ∷ xs) rest h =
+    let n : suc (x + 3) ≡ x + 4 = omega arith in
+    ap (and_then (one_read (x ∷ xs))) (read_skip (x + 3) xs rest ∙ ap (λ (k : ℕ). read_then 0 (drop k (x ∷ xs)) rest) n)
 
 -- the second verdict only after a good first
 abbrev pub seq : Result Unit Refusal → Result Unit Refusal → Result Unit Refusal
@@ -41,9 +36,10 @@ verdict_then : (o : Result Entry Refusal) (a : Answer) → verdict (and_then o a
 verdict_then (Ok p) a = verdict_before p a
 verdict_then (Err e) a = refl
 
-pub verdict_at : (xs : List ℕ) (at : ℕ) (rest : Answer) → at < length xs
-    → verdict (read_then 0 (drop at xs) rest) ≡ seq (verdict (one_read (drop at xs))) (verdict (read_then 0 (drop (at + (get_or xs at 0 + 4)) xs) rest))
-verdict_at xs at rest h = ap verdict (read_at xs at rest h) ∙ verdict_then (one_read (drop at xs)) (read_then 0 (drop (at + (get_or xs at 0 + 4)) xs) rest)
+-- the verdict on records is that on the first, and then that on the others
+pub verdict_first : (xs : List ℕ) (rest : Answer) → 0 < length xs
+    → verdict (read_then 0 xs rest) ≡ seq (verdict (one_read xs)) (verdict (read_then 0 (drop (get_or xs 0 0 + 4) xs) rest))
+verdict_first xs rest h = ap verdict (read_first xs rest h) ∙ verdict_then (one_read xs) (read_then 0 (drop (get_or xs 0 0 + 4) xs) rest)
 
 seq_then : (o : Result Entry Refusal) (a a0 : Answer) (v : Result Unit Refusal) → verdict a ≡ seq (verdict a0) v → verdict (and_then o a) ≡ seq (verdict (and_then o a0)) v
 seq_then (Ok p) a a0 v e = verdict_before p a ∙ (e ∙ ap (λ (r : Result Unit Refusal). seq r v) (sym (verdict_before p a0)))
@@ -72,9 +68,21 @@ read_more xs k b h =
     ap (λ (j : ℕ). read_from b j (drop (512 * b) xs)) e
     ∙ ap (λ (ys : List ℕ). block_then b (take 512 (drop (512 * b) xs)) (read_from (b + 1) (k - (b + 1)) ys)) (drop-drop 512 (512 * b) xs ∙ ap (λ (j : ℕ). drop j xs) o)
 
+-- block b of a capture's whole blocks
+pub chunk_at : (k b : ℕ) (xs : List ℕ) → b < k → get_or (first_chunks 512 k xs) b [] ≡ block_at xs b
+chunk_at zero b xs h = absurd (omega arith)
+chunk_at (suc k) zero xs h = refl
+chunk_at (suc k) (suc b) xs h =
+    let e : 512 + 512 * b ≡ 512 * suc b = omega arith in
+    chunk_at k b (drop 512 xs) (omega arith) ∙ ap (take 512) (drop-drop (512 * b) 512 xs ∙ ap (λ (j : ℕ). drop j xs) e)
+
+-- the verdict on blocks is that on the first, and then that on the others
 pub verdict_more : (xs : List ℕ) (k b : ℕ) → b < k
-    → verdict (read_from b (k - b) (drop (512 * b) xs)) ≡ seq (block_alone b (take 512 (drop (512 * b) xs))) (verdict (read_from (b + 1) (k - (b + 1)) (drop (512 * (b + 1)) xs)))
-verdict_more xs k b h = ap verdict (read_more xs k b h) ∙ block_seq b (take 512 (drop (512 * b) xs)) (read_from (b + 1) (k - (b + 1)) (drop (512 * (b + 1)) xs))
+    → verdict (read_from b (k - b) (drop (512 * b) xs)) ≡ seq (block_alone b (get_or (first_chunks 512 k xs) b [])) (verdict (read_from (b + 1) (k - (b + 1)) (drop (512 * (b + 1)) xs)))
+verdict_more xs k b h =
+    let rest : Answer = read_from (b + 1) (k - (b + 1)) (drop (512 * (b + 1)) xs) in
+    ap verdict (read_more xs k b h)
+    ∙ (block_seq b (block_at xs b) rest ∙ ap (λ (ys : List ℕ). seq (block_alone b ys) (verdict rest)) (sym (chunk_at k b xs h)))
 
 pub both_true : (x y : Bool) → x ≡ true → y ≡ true → both x y ≡ true
 both_true x y a b = cond-true x y false a ∙ b

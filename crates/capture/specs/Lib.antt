@@ -1,4 +1,5 @@
 pub mod Words
+pub mod Kinds
 pub mod Checksum
 pub mod Records
 pub mod Lawful

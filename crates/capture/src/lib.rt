@@ -4,6 +4,7 @@
 pub mod block;
 pub mod checks;
 pub mod feed;
+pub mod kind;
 pub mod laws;
 pub mod reading;
 pub mod record;
@@ -11,6 +12,7 @@ pub mod refusal;
 
 pub use checks::{check, check_block, check_record, checksum};
 pub use feed::Feed;
+pub use kind::Kind;
 pub use laws::{captures_read_back, exchanges_are_records, worked_blocks_stand};
 pub use record::Record;
 pub use refusal::Refusal;

@@ -1,16 +1,16 @@
 // Reading a checked capture: its records in order, and answers to requests from them.
-ghost use Rattle.std.specs.Prelude.{◌≡◌, ◌+◌, ◌/◌, ◌%◌, ◌<◌, ◌≤◌, true, cond, [], map, length, drop, is_some, is_ok};
-ghost use Rattle.capture.specs.Words.{word_at};
+ghost use Rattle.std.specs.Prelude.{◌≡◌, ◌+◌, true, cond, [], length, drop, is_some, is_ok, MatchOption, ⊤};
+ghost use Rattle.std.specs.Iterator.{MakesProgress, at_most};
 ghost use Rattle.capture.specs.Records.{first_entry};
-ghost use Rattle.capture.specs.Checking.{one_read, used_bytes, read_capture, verdict, entries};
-ghost use Rattle.capture.specs.Remaining.{block_at, remains};
+ghost use Rattle.capture.specs.Checking.{one_read, read_capture, verdict, entries};
 ghost use Rattle.capture.specs.Handed.{seen, given, head_of, tail_of};
-ghost use Rattle.capture.specs.Feeds.{held, left, exchanges_left};
+ghost use Rattle.capture.specs.Feeds.{held, left, exchanges_left, Hands, Stands};
 ghost use Rattle.capture.specs.Exchanges.{answers, leaves, answer_is_lawful};
 
-use crate::block::{AFTER_HEADER, BLOCK, SHORTEST_HEADER};
-use crate::checks::{check, word, word_at};
+use crate::block::{AFTER_HEADER, BLOCK, SHORTEST_HEADER, used_bytes};
+use crate::checks::{check, word_at};
 use crate::feed::Feed;
+use crate::kind::Kind;
 use crate::record::{Record, reply_with, same_request};
 use crate::refusal::Refusal;
 use bus::{Gone, Request};
@@ -25,71 +25,31 @@ fn first_record<'a>(bytes: &'a [u8]) -> Record<'a>
     let address = word_at(bytes, header);
     let word = word_at(bytes, header + 2);
     let added = &bytes[SHORTEST_HEADER..header];
-    match bytes[1] {
-        1 => Record::Read {
+    match Kind::try_from(bytes[1]) {
+        Ok(Kind::Read) => Record::Read {
             address,
             reply: reply_with(answered, word),
             added,
         },
-        2 => Record::Write {
+        Ok(Kind::Write) => Record::Write {
             address,
             word,
             answered,
             added,
         },
-        3 => Record::WriteByte {
+        Ok(Kind::WriteByte) => Record::WriteByte {
             address,
             byte: word as u8,
             answered,
             added,
         },
-        4 => Record::Lines { word, added },
-        5 => Record::Vector {
+        Ok(Kind::Lines) => Record::Lines { word, added },
+        Ok(Kind::Vector) => Record::Vector {
             reply: reply_with(answered, word),
             added,
         },
-        _ => Record::Init { added },
+        Ok(Kind::Init) | Err(_) => Record::Init { added },
     }
-}
-
-// The used record bytes of a block.
-fn used_bytes<'a>(block: &'a [u8]) -> &'a [u8]
-    requires { (length block.now ≡ 512) × (word_at block.now 2 ≤ 506) }
-    ensures { result.now ≡ used_bytes block.now }
-{
-    let [_, _, used_low, used_high, rest @ ..] = block else {
-        return &[];
-    };
-    &rest[0..word(*used_low, *used_high) as usize]
-}
-
-// The same of block b of a capture.
-fn used_bytes_of<'a>(bytes: &'a [u8], b: usize) -> &'a [u8]
-    requires { (b < length bytes.now / 512) × (word_at (block_at bytes.now b) 2 ≤ 506) }
-    ensures { result.now ≡ used_bytes (block_at bytes.now b) }
-{
-    used_bytes(&bytes[BLOCK * b..BLOCK * b + BLOCK])
-}
-
-// Goes on to the block and byte of the next record, or past the last block.
-fn next_place(bytes: &[u8], block: usize, from: usize) -> (usize, usize)
-    requires whole { length bytes.now % 512 ≡ 0 }
-    requires short { word_at (block_at bytes.now block) 2 ≤ 506 }
-    requires passed { is_ok (remains bytes.now block from) ≡ true }
-    ensures short { word_at (block_at bytes.now result.0) 2 ≤ 506 }
-    ensures same { remains bytes.now result.0 result.1 ≡ remains bytes.now block from }
-    ensures stands { result.0 < length bytes.now / 512 → result.1 < length (used_bytes (block_at bytes.now result.0)) }
-{
-    let mut b = block;
-    let mut at = from;
-    while b < bytes.len() / BLOCK {
-        if at < used_bytes_of(bytes, b).len() {
-            return (b, at);
-        }
-        b += 1;
-        at = 0;
-    }
-    (b, at)
 }
 
 impl<'a> Feed<'a> {
@@ -133,38 +93,28 @@ impl<'a> Feed<'a> {
         self.used
     }
 
+    // Where the next record stands: its block, its first byte there, and the record bytes from it on.
+    fn next_place(&self) -> Option<(usize, usize, &'a [u8])>
+        ensures { MatchOption result (left self.now ≡ []) (λ p. Stands self.now p.0 p.1 p.2.now) }
+    {
+        let (blocks, _) = self.bytes.as_chunks::<BLOCK>();
+        let mut from = self.from;
+        for block in self.block..blocks.len() {
+            let bytes = used_bytes(&blocks[block]);
+            if from < bytes.len() {
+                return Some((block, from, &bytes[from..]));
+            }
+            from = 0;
+        }
+        None
+    }
+
     // The next record, which stays the next.
     pub fn peek(&self) -> Option<Record<'a>>
         ensures { given result ≡ head_of (left self.now) }
     {
-        let bytes = self.bytes;
-        let (b, at) = next_place(bytes, self.block, self.from);
-        if b >= bytes.len() / BLOCK {
-            return None;
-        }
-        Some(first_record(&used_bytes_of(bytes, b)[at..]))
-    }
-
-    // Hands out the next record.
-    pub fn next(&mut self) -> Option<Record<'a>>
-        ensures answer { given result ≡ head_of (left self.old) }
-        ensures held { held self.new ≡ held self.old }
-        ensures left { left self.new ≡ tail_of (left self.old) }
-        ensures used { self.new.used ≡ self.old.used + cond (is_some result) 1 0 }
-    {
-        let bytes = self.bytes;
-        let (b, at) = next_place(bytes, self.block, self.from);
-        if b >= bytes.len() / BLOCK {
-            return None;
-        }
-        let part = used_bytes_of(bytes, b);
-        *self = Feed {
-            bytes,
-            block: b,
-            from: at + (part[at] as usize + AFTER_HEADER),
-            used: self.used + 1,
-        };
-        Some(first_record(&part[at..]))
+        let (_, _, bytes) = self.next_place()?;
+        Some(first_record(bytes))
     }
 
     // Answers a request with the next record, which is used by that, if it is of this request; otherwise the feed is gone, and
@@ -185,5 +135,32 @@ impl<'a> Feed<'a> {
         }
         let _used = self.next();
         Ok(exchange.reply)
+    }
+}
+
+// Hands out the records that are left.
+impl<'a> Iterator for Feed<'a> {
+    type Item = Record<'a>;
+
+    ghost next_gives = { Hands };
+
+    ghost remaining = { λ feed. at_most (length (left feed)) };
+
+    fn next(&mut self) -> Option<Record<'a>>
+        ensures answer { given result ≡ head_of (left self.old) }
+        ensures held { held self.new ≡ held self.old }
+        ensures left { left self.new ≡ tail_of (left self.old) }
+        ensures used { self.new.used ≡ self.old.used + cond (is_some result) 1 0 }
+        ensures steps { Hands self.old result self.new }
+        ensures goes { MakesProgress (λ _. ⊤) (λ feed. at_most (length (left feed))) self.old result self.new }
+    {
+        let (block, from, bytes) = self.next_place()?;
+        *self = Feed {
+            bytes: self.bytes,
+            block,
+            from: from + (bytes[0] as usize + AFTER_HEADER),
+            used: self.used + 1,
+        };
+        Some(first_record(bytes))
     }
 }

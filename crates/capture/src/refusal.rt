@@ -2,21 +2,21 @@
 ghost use Rattle.std.specs.Prelude.{◌≡◌};
 ghost use Rattle.capture.specs.Checking.{refusal_number};
 
-// In the order in which they are asked.
+// In the order in which they are asked, each with the number by which operators know it.
 #[derive(Clone, Copy, PartialEq, Eq, Debug)]
 pub enum Refusal {
     // Not 1 to 4,096 whole blocks.
-    Blocks,
+    Blocks = 3,
     // A block with another number than its place.
-    Number,
+    Number = 5,
     // More than 506 used bytes.
-    Used,
+    Used = 6,
     // A block whose words do not add up to 0.
-    Checksum,
+    Checksum = 7,
     // A header length outside 4 to 32, or a record that ends past the used bytes.
-    Length,
+    Length = 8,
     // Fields that the record's kind does not allow.
-    Fields,
+    Fields = 9,
 }
 
 impl Refusal {
@@ -24,13 +24,6 @@ impl Refusal {
     pub fn number(self) -> u8
         ensures { result ≡ refusal_number self }
     {
-        match self {
-            Refusal::Blocks => 3,
-            Refusal::Number => 5,
-            Refusal::Used => 6,
-            Refusal::Checksum => 7,
-            Refusal::Length => 8,
-            Refusal::Fields => 9,
-        }
+        self as u8
     }
 }
