@@ -15,8 +15,8 @@ use crate::kind::Kind;
 use crate::refusal::Refusal;
 use bus::PAGE;
 
-// A line for each of four request lines.
-const MOST_LINES: u16 = 0o17;
+// A bit for each of four request lines.
+pub const MOST_LINES: u16 = 0o17;
 
 pub(crate) fn word_at(bytes: &[u8], at: usize) -> u16
     requires { at + 1 < length bytes.now }
@@ -40,6 +40,7 @@ fn part_at(i: usize, byte: u8) -> u16
 pub fn checksum(block: &[u8]) -> u16
     ensures { result ≡ block_sum block.now }
 {
+    // The project fixes this loop over the bytes with their index, for the sum that wraps.
     let mut sum: u16 = 0;
     for (i, b) in block.iter().enumerate() {
         sum = sum.wrapping_add(part_at(i, *b));

@@ -11,7 +11,7 @@ use crate::block::{AFTER_HEADER, BLOCK, SHORTEST_HEADER, used_bytes};
 use crate::checks::{check, word_at};
 use crate::feed::Feed;
 use crate::kind::Kind;
-use crate::record::{Record, reply_with, same_request};
+use crate::record::Record;
 use crate::refusal::Refusal;
 use bus::{Gone, Request};
 
@@ -28,7 +28,7 @@ fn first_record<'a>(bytes: &'a [u8]) -> Record<'a>
     match Kind::try_from(bytes[1]) {
         Ok(Kind::Read) => Record::Read {
             address,
-            reply: reply_with(answered, word),
+            reply: answered.then_some(word),
             added,
         },
         Ok(Kind::Write) => Record::Write {
@@ -45,7 +45,7 @@ fn first_record<'a>(bytes: &'a [u8]) -> Record<'a>
         },
         Ok(Kind::Lines) => Record::Lines { word, added },
         Ok(Kind::Vector) => Record::Vector {
-            reply: reply_with(answered, word),
+            reply: answered.then_some(word),
             added,
         },
         Ok(Kind::Init) | Err(_) => Record::Init { added },
@@ -130,7 +130,7 @@ impl<'a> Feed<'a> {
             return Err(Gone);
         };
         let exchange = record.exchange();
-        if !same_request(exchange.request, request) {
+        if exchange.request != request {
             return Err(Gone);
         }
         let _used = self.next();

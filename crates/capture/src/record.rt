@@ -1,7 +1,7 @@
 // Records as they are handed out: one case for each request.
-ghost use Rattle.std.specs.Prelude.{◌≡◌, if◌then◌else◌, Some, None};
+ghost use Rattle.std.specs.Prelude.{◌≡◌};
 ghost use Rattle.capture.specs.Handed.{shown, added_of};
-ghost use Rattle.capture.specs.Exchanges.{exchange_of, same_request};
+ghost use Rattle.capture.specs.Exchanges.{exchange_of};
 
 use bus::{Exchange, Request};
 
@@ -38,13 +38,6 @@ pub enum Record<'a> {
     },
 }
 
-// A reply from a mark and a word.
-pub(crate) fn reply_with(answered: bool, word: u16) -> Option<u16>
-    ensures { result ≡ (if answered then Some word else None) }
-{
-    if answered { Some(word) } else { None }
-}
-
 impl<'a> Record<'a> {
     // The exchange that was recorded.
     pub fn exchange(self) -> Exchange
@@ -63,7 +56,7 @@ impl<'a> Record<'a> {
             } => {
                 Exchange {
                     request: Request::Write(address, word),
-                    reply: reply_with(answered, 0),
+                    reply: answered.then_some(0),
                 }
             }
             Record::WriteByte {
@@ -74,7 +67,7 @@ impl<'a> Record<'a> {
             } => {
                 Exchange {
                     request: Request::WriteByte(address, byte),
-                    reply: reply_with(answered, 0),
+                    reply: answered.then_some(0),
                 }
             }
             Record::Lines { word, .. } => Exchange {
@@ -97,27 +90,12 @@ impl<'a> Record<'a> {
         ensures { result.now ≡ added_of self.entry }
     {
         match self {
-            Record::Read { added, .. } => added,
-            Record::Write { added, .. } => added,
-            Record::WriteByte { added, .. } => added,
-            Record::Lines { added, .. } => added,
-            Record::Vector { added, .. } => added,
-            Record::Init { added } => added,
+            Record::Read { added, .. }
+            | Record::Write { added, .. }
+            | Record::WriteByte { added, .. }
+            | Record::Lines { added, .. }
+            | Record::Vector { added, .. }
+            | Record::Init { added } => added,
         }
-    }
-}
-
-// Whether one request is the other: the same kind, address and, for writes, word or byte.
-pub(crate) fn same_request(asked: Request, other: Request) -> bool
-    ensures { result ≡ same_request asked other }
-{
-    match (asked, other) {
-        (Request::Read(a), Request::Read(b)) => a == b,
-        (Request::Write(a, v), Request::Write(b, w)) => a == b && v == w,
-        (Request::WriteByte(a, v), Request::WriteByte(b, w)) => a == b && v == w,
-        (Request::Lines, Request::Lines) => true,
-        (Request::Vector, Request::Vector) => true,
-        (Request::Init, Request::Init) => true,
-        _ => false,
     }
 }

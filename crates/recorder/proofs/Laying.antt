@@ -1,95 +1,67 @@
 -- A block as its parts are written one after another.
-use Rattle.std.proofs.Common.{◌≡◌, ℕ, suc, ◌+◌, ◌-◌, ◌/◌, ◌%◌, ◌≤◌, List, [], ◌∷◌, ◌++◌, length, take, drop, replicate, sym, refl, ap, ◌∙◌, arith, length-append, length-drop}
+use Rattle.std.proofs.Common.{◌≡◌, ℕ, ◌+◌, ◌-◌, ◌≤◌, List, ◌++◌, length, take, drop, replicate, ap, ◌∙◌, arith, length-append, length-drop}
+use borrow.Rule.Slice.PartMut.{put_mid, post_of}
+use Rattle.std.proofs.lemmas.List.{length-take-le, length-replicate}
+use Rattle.std.proofs.lemmas.Slice.{take-put_mid}
 use Rattle.capture.specs.Words.{word_bytes}
 use Rattle.capture.specs.Blocks.{unsealed, zeros_after}
-use borrow.Rule.Slice.PartMut.{put_mid, post_of}
-use lib.ListN.{length-replicate}
-use Rattle.std.proofs.lemmas.List.{length-take-le, drop-drop}
-use Rattle.std.proofs.lemmas.Slice.{take-put_mid}
 
--- four bytes and then a part of the rest
-take-past_four : (a b c d : ℕ) (t : List ℕ) (n : ℕ) → 4 ≤ n → take n (a ∷ b ∷ c ∷ d ∷ t) ≡ a ∷ b ∷ c ∷ d ∷ take (n - 4) t
-take-past_four a b c d t n h =
-    let e : n ≡ suc (suc (suc (suc (n - 4)))) = omega arith in
-    ap (λ (k : ℕ). take k (a ∷ b ∷ c ∷ d ∷ t)) e
+-- what stands before e after a part that ends there was written at p
+record Put (p e : ℕ) (xs ys new : List ℕ) : Type 0 where
+  pub front : take e new ≡ take p xs ++ ys
+  pub long : length new ≡ length xs
 
-len_x : (b : List ℕ) (a0 a1 u0 u1 : ℕ) → length b ≡ 512 → length (put_mid 2 2 ((a0 ∷ a1 ∷ []) ++ post_of 0 2 b) (u0 ∷ u1 ∷ [])) ≡ 512
-len_x b a0 a1 u0 u1 hb =
-    let ex : put_mid 2 2 ((a0 ∷ a1 ∷ []) ++ post_of 0 2 b) (u0 ∷ u1 ∷ []) ≡ a0 ∷ a1 ∷ u0 ∷ u1 ∷ drop 4 b = ap (λ (t : List ℕ). a0 ∷ a1 ∷ u0 ∷ u1 ∷ t) (drop-drop 2 2 b) in
-    ap length ex ∙ omega (arith, length-drop 4 b)
+put : (p e : ℕ) (xs ys : List ℕ) → e ≡ p + length ys → e ≤ length xs → Put p e xs ys (put_mid p (e - p) xs ys)
+put p e xs ys h l =
+    record {
+      front = take-put_mid p (e - p) xs ys e h (omega arith);
+      long =
+          omega (
+            arith,
+            length-append (take p xs) (ys ++ post_of p (e - p) xs),
+            length-append ys (post_of p (e - p) xs),
+            length-take-le p xs (omega arith),
+            length-drop p xs,
+            length-drop (e - p) (drop p xs),
+          );
+    }
 
-len_put : (a n : ℕ) (x rec : List ℕ) → n ≡ a + length rec → n ≤ length x → length (put_mid a (n - a) x rec) ≡ length x
-len_put a n x rec e h =
-    let d1 : length (drop a x) ≡ length x - a = length-drop a x in
-    let d2 : length (drop (n - a) (drop a x)) ≡ length (drop a x) - (n - a) = length-drop (n - a) (drop a x) in
-    omega (
-      arith,
-      length-append (take a x) (rec ++ post_of a (n - a) x),
-      length-append rec (post_of a (n - a) x),
-      length-take-le a x (omega arith),
-    )
+joined : (A U B R Z a u b r z : List ℕ) → A ≡ a → U ≡ u → B ≡ b → R ≡ r → Z ≡ z → (((A ++ U) ++ B) ++ R) ++ Z ≡ (((a ++ u) ++ b) ++ r) ++ z
+joined A U B R Z a u b r z eA eU eB eR eZ = cc
 
-pub lay_is : (b rec z : List ℕ) (a0 a1 u0 u1 at : ℕ)
-    → length b ≡ 512
-    → 4 ≤ at
-    → at + length rec ≤ 510
-    → length z ≡ 510 - (at + length rec)
-    → take 510 (put_mid (at + length rec) (510 - (at + length rec)) (put_mid at ((at + length rec) - at) (put_mid 2 2 ((a0 ∷ a1 ∷ []) ++ post_of 0 2 b) (u0 ∷ u1 ∷ [])) rec) z)
-    ≡ a0 ∷ a1 ∷ u0 ∷ u1 ∷ ((take (at - 4) (drop 4 b) ++ rec) ++ z)
-lay_is b rec z a0 a1 u0 u1 at hb h4 hr hz =
-    let x : List ℕ = put_mid 2 2 ((a0 ∷ a1 ∷ []) ++ post_of 0 2 b) (u0 ∷ u1 ∷ []) in
-    let y : List ℕ = put_mid at ((at + length rec) - at) x rec in
-    let ex : x ≡ a0 ∷ a1 ∷ u0 ∷ u1 ∷ drop 4 b = ap (λ (t : List ℕ). a0 ∷ a1 ∷ u0 ∷ u1 ∷ t) (drop-drop 2 2 b) in
-    let lx : length x ≡ 512 = ap length ex ∙ omega (arith, length-drop 4 b) in
-    let ly : at + length rec ≤ length y =
-    omega (
-      arith,
-      length-append (take at x) (rec ++ post_of at ((at + length rec) - at) x),
-      length-append rec (post_of at ((at + length rec) - at) x),
-      length-take-le at x (omega arith),
-    )
-    in
-    let e1 : take 510 (put_mid (at + length rec) (510 - (at + length rec)) y z) ≡ take (at + length rec) y ++ z =
-    take-put_mid (at + length rec) (510 - (at + length rec)) y z 510 (omega arith) ly
-    in
-    let e2 : take (at + length rec) y ≡ take at x ++ rec =
-    take-put_mid at ((at + length rec) - at) x rec (at + length rec) (omega arith) (omega arith)
-    in
-    let e3 : take at x ≡ a0 ∷ a1 ∷ u0 ∷ u1 ∷ take (at - 4) (drop 4 b) =
-    ap (λ (xs : List ℕ). take at xs) ex ∙ take-past_four a0 a1 u0 u1 (drop 4 b) at h4
-    in
-    e1 ∙ (ap (λ (xs : List ℕ). xs ++ z) (e2 ∙ ap (λ (xs : List ℕ). xs ++ rec) e3))
-
--- the same over what each copy left, which its contract ties to its source
-pub lay_all : (b rec A U R Z : List ℕ) (number at : ℕ)
-    → length b ≡ 512
-    → 4 ≤ at
-    → at + length rec ≤ 510
+-- number, used count, two runs of records and zeros, over what each copy left
+pub laid : (block A U B R Z before rec : List ℕ) (number at end : ℕ)
+    → length block ≡ 512
+    → at ≡ 4 + length before
+    → end ≡ at + length rec
+    → end ≤ 510
     → A ≡ word_bytes number
-    → U ≡ word_bytes ((at + length rec) - 4)
+    → U ≡ word_bytes (end - 4)
+    → B ≡ before
     → R ≡ rec
-    → Z ≡ replicate (length (take (510 - (at + length rec)) (drop (at + length rec) (put_mid at ((at + length rec) - at) (put_mid 2 2 (A ++ post_of 0 2 b) U) R)))) 0
-    → take 510 (put_mid (at + length rec) (510 - (at + length rec)) (put_mid at ((at + length rec) - at) (put_mid 2 2 (A ++ post_of 0 2 b) U) R) Z)
-    ≡ unsealed number (take (at - 4) (drop 4 b) ++ rec) (zeros_after (take (at - 4) (drop 4 b) ++ rec))
-lay_all b rec A U R Z number at hb h4 hr eA eU eR eZ =
-    let y : List ℕ = put_mid at ((at + length rec) - at) (put_mid 2 2 (word_bytes number ++ post_of 0 2 b) (word_bytes ((at + length rec) - 4))) rec in
-    let body : List ℕ = take (at - 4) (drop 4 b) ++ rec in
-    let n : length body ≡ (at + length rec) - 4 =
-    omega (arith, length-append (take (at - 4) (drop 4 b)) rec, length-take-le (at - 4) (drop 4 b) (omega (arith, length-drop 4 b)), length-drop 4 b)
+    → Z ≡ replicate (length (take (510 - end) (drop end (put_mid at (end - at) (put_mid 4 (at - 4) (put_mid 2 2 (A ++ post_of 0 2 block) U) B) R)))) 0
+    → take 510 (put_mid end (510 - end) (put_mid at (end - at) (put_mid 4 (at - 4) (put_mid 2 2 (A ++ post_of 0 2 block) U) B) R) Z)
+    ≡ unsealed number (before ++ rec) (zeros_after (before ++ rec))
+laid block A U B R Z before rec number at end lb ha he h eA eU eB eR eZ =
+    let lA : length A ≡ 2 = ap length eA in
+    let lU : length U ≡ 2 = ap length eU in
+    let lB : length B ≡ length before = ap length eB in
+    let lR : length R ≡ length rec = ap length eR in
+    let n : end - 4 ≡ length (before ++ rec) = omega (arith, length-append before rec) in
+    let x1 : List ℕ = A ++ post_of 0 2 block in
+    let x2 : List ℕ = put_mid 2 2 x1 U in
+    let x3 : List ℕ = put_mid 4 (at - 4) x2 B in
+    let x4 : List ℕ = put_mid at (end - at) x3 R in
+    let p1 : Put 0 2 block A x1 = put 0 2 block A (omega arith) (omega arith) in
+    let p2 : Put 2 4 x1 U x2 = put 2 4 x1 U (omega arith) (omega (arith, p1.long)) in
+    let p3 : Put 4 at x2 B x3 = put 4 at x2 B (omega arith) (omega (arith, p1.long, p2.long)) in
+    let p4 : Put at end x3 R x4 = put at end x3 R (omega arith) (omega (arith, p1.long, p2.long, p3.long)) in
+    let m : length (take (510 - end) (drop end x4)) ≡ 506 - length (before ++ rec) =
+    length-take-le (510 - end) (drop end x4) (omega (arith, p1.long, p2.long, p3.long, p4.long, length-drop end x4)) ∙ omega arith
     in
-    let F : List ℕ → List ℕ → List ℕ → List ℕ = λ p q s. put_mid at ((at + length rec) - at) (put_mid 2 2 (p ++ post_of 0 2 b) q) s in
-    let f : F A U R ≡ y = ap (λ (p : List ℕ). F p U R) eA ∙ (ap (λ (q : List ℕ). F (word_bytes number) q R) eU ∙ ap (λ (s : List ℕ). F (word_bytes number) (word_bytes ((at + length rec) - 4)) s) eR) in
-    let k : length (take (510 - (at + length rec)) (drop (at + length rec) y)) ≡ 506 - length body =
-    let lx : length (put_mid 2 2 (word_bytes number ++ post_of 0 2 b) (word_bytes ((at + length rec) - 4))) ≡ 512 = len_x b (number % 256) (number / 256 % 256) (((at + length rec) - 4) % 256) (((at + length rec) - 4) / 256 % 256) hb in
-    let ly : length y ≡ 512 = len_put at (at + length rec) (put_mid 2 2 (word_bytes number ++ post_of 0 2 b) (word_bytes ((at + length rec) - 4))) rec refl (omega arith) ∙ lx in
-    let ld : length (drop (at + length rec) y) ≡ length y - (at + length rec) = length-drop (at + length rec) y in
-    length-take-le (510 - (at + length rec)) (drop (at + length rec) y) (omega arith) ∙ omega arith
-    in
-    let z : Z ≡ replicate (506 - length body) 0 = eZ ∙ (ap (λ (s : List ℕ). replicate (length (take (510 - (at + length rec)) (drop (at + length rec) s))) 0) f ∙ ap (λ (m : ℕ). replicate m 0) k) in
-    let g : take 510 (put_mid (at + length rec) (510 - (at + length rec)) (F A U R) Z) ≡ take 510 (put_mid (at + length rec) (510 - (at + length rec)) y (replicate (506 - length body) 0)) =
-    ap (λ (s : List ℕ). take 510 (put_mid (at + length rec) (510 - (at + length rec)) s Z)) f ∙ ap (λ (s : List ℕ). take 510 (put_mid (at + length rec) (510 - (at + length rec)) y s)) z
-    in
-    let w : word_bytes ((at + length rec) - 4) ≡ word_bytes (length body) = ap word_bytes (sym n) in
-    g
-    ∙ (lay_is b rec (replicate (506 - length body) 0) (number % 256) (number / 256 % 256) (((at + length rec) - 4) % 256) (((at + length rec) - 4) / 256 % 256) at hb h4 hr (length-replicate (506 - length body) 0 ∙ omega arith)
-    ∙ ap (λ (s : List ℕ). word_bytes number ++ (s ++ (body ++ replicate (506 - length body) 0))) w)
+    let z : Z ≡ zeros_after (before ++ rec) = eZ ∙ ap (λ (k : ℕ). replicate k 0) m in
+    let lZ : length Z ≡ 506 - length (before ++ rec) = ap length z ∙ length-replicate (506 - length (before ++ rec)) 0 in
+    let u : U ≡ word_bytes (length (before ++ rec)) = eU ∙ ap word_bytes n in
+    take-put_mid end (510 - end) x4 Z 510 (omega arith) (omega (arith, p1.long, p2.long, p3.long, p4.long))
+    ∙ (ap (λ (xs : List ℕ). xs ++ Z) (p4.front ∙ ap (λ (xs : List ℕ). xs ++ R) (p3.front ∙ ap (λ (xs : List ℕ). xs ++ B) (p2.front ∙ ap (λ (xs : List ℕ). xs ++ U) p1.front)))
+    ∙ joined A U B R Z (word_bytes number) (word_bytes (length (before ++ rec))) before rec (zeros_after (before ++ rec)) eA u eB eR z)

@@ -3,7 +3,7 @@ use Rattle.std.proofs.Common.{◌≡◌, ℕ, zero, suc, ◌+◌, ◌-◌, ◌*�
 use native.Mathlib.Nat.{mul-div-le, add-mod_right, div-eq_of_lt, add-div_right}
 use lib.Seq.{take-append-add, take-nil}
 use borrow.Rule.Slice.PartMut.{put_mid}
-use Rattle.std.proofs.lemmas.List.{take_at, drop_at, append_assoc, append-nil, take_all, drop_all, drop-drop, take-append-le, drop-append-le, length_push, map_push, length-map, nil_from_length}
+use Rattle.std.proofs.lemmas.List.{take_at, drop_at, append_assoc, append-nil, take_all, drop_all, drop-drop, drop-take, take-take, take-append-le, drop-append-le, length_push, map_push, length-map, nil_from_length}
 use Rattle.std.proofs.ByRecursion.{All-drop}
 use Rattle.std.proofs.lemmas.Bool.{cases_lt, cases_Bool, eqb-true, cond-true, cond-false, lt-ltb, le-ltb}
 use Rattle.capture.specs.declared.refusal.Refusal.TheVariants.{Blocks}
@@ -144,15 +144,21 @@ noted_packed size n hn hs k recs rec s e h =
     ap (λ (m : ℕ). put size rec m (512 * (length recs / n)) (length recs % n) (packed n 0 k recs)) (sym (zero-add (length recs / n)))
     ∙ noted_from size n hn hs k 0 recs rec s e h
 
-pub note_is : (o m size at : ℕ) (buf rec new : List ℕ) → at ≡ 4 + size → new ≡ block_bytes m (take (at - 4) (drop 4 (take ((o + 512) - o) (drop o buf))) ++ rec)
-    → put_mid o ((o + 512) - o) buf new ≡ edited (λ block. block_bytes m (take size (drop 4 block) ++ rec)) o buf
-note_is o m size at buf rec new ea e =
-    let a : at - 4 ≡ size = omega arith in
-    let k : (o + 512) - o ≡ 512 = omega arith in
-    ap (λ (xs : List ℕ). put_mid o ((o + 512) - o) buf xs) e
-    ∙ (ap (λ (j : ℕ). put_mid o j buf (block_bytes m (take (at - 4) (drop 4 (take j (drop o buf))) ++ rec))) k
-    ∙ (ap (λ (j : ℕ). put_mid o 512 buf (block_bytes m (take j (drop 4 (take 512 (drop o buf))) ++ rec))) a
-    ∙ ap (λ (xs : List ℕ). take o buf ++ (block_bytes m (take size (drop 4 (take 512 (drop o buf))) ++ rec) ++ xs)) (drop-drop 512 o buf)))
+-- the records of a block that stand before a new one, as they lie in the buffer
+before_is : (o k : ℕ) (buf : List ℕ) → k ≤ 506 → take (((o + 4) + k) - (o + 4)) (drop (o + 4) buf) ≡ take k (drop 4 (take 512 (drop o buf)))
+before_is o k buf h =
+    let n : ((o + 4) + k) - (o + 4) ≡ k = omega arith in
+    ap (λ (j : ℕ). take j (drop (o + 4) buf)) n
+    ∙ (ap (take k) (sym (drop-drop 4 o buf))
+    ∙ (sym (take-take k 508 (drop 4 (drop o buf)) (omega arith)) ∙ ap (take k) (sym (drop-take 4 508 (drop o buf)))))
+
+pub note_is : (o m k : ℕ) (buf rec new : List ℕ) → k ≤ 506 → new ≡ block_bytes m (take (((o + 4) + k) - (o + 4)) (drop (o + 4) buf) ++ rec)
+    → put_mid o ((o + 512) - o) buf new ≡ edited (λ block. block_bytes m (take k (drop 4 block) ++ rec)) o buf
+note_is o m k buf rec new h e =
+    let n : (o + 512) - o ≡ 512 = omega arith in
+    ap (λ (j : ℕ). put_mid o j buf new) n
+    ∙ (ap (λ (xs : List ℕ). put_mid o 512 buf xs) (e ∙ ap (λ (xs : List ℕ). block_bytes m (xs ++ rec)) (before_is o k buf h))
+    ∙ ap (λ (xs : List ℕ). take o buf ++ (block_bytes m (take k (drop 4 (take 512 (drop o buf))) ++ rec) ++ xs)) (drop-drop 512 o buf))
 
 pub fill_more : (b : ℕ) (s cur new : List ℕ) → cur ≡ empty_blocks 0 b ++ drop (512 * b) s → new ≡ block_bytes b []
     → put_mid (512 * b) ((512 * b + 512) - 512 * b) cur new ≡ empty_blocks 0 (b + 1) ++ drop (512 * (b + 1)) s

@@ -11,7 +11,7 @@ ghost use Rattle.recorder.specs.Noting.{noting_answer, noted};
 ghost use Rattle.recorder.specs.Made.{bytes_of, made, places_of};
 
 use crate::encoding::{lawful, record_bytes};
-use crate::opening::append;
+use crate::opening::{RECORDS, block_of};
 use crate::recorder::{Recorder, Sheets};
 use bus::Exchange;
 use capture::block::{AFTER_HEADER, BLOCK, MOST_USED};
@@ -27,25 +27,48 @@ pub enum NotNoted {
 
 impl<'a> Sheets<'a> {
     // Puts the next record, of n in a block, in its place.
-    fn note(&mut self, size: usize, n: usize, rec: &[u8])
-        requires size { length rec.now ≡ size }
+    fn note(&mut self, n: usize, rec: &[u8])
         requires many { 0 < n }
-        requires fit { size * n ≤ 506 }
+        requires fit { length rec.now * n ≤ 506 }
         requires low { self.old.count / n < 4096 }
         requires short { self.old.count < 2 ^ 32 }
         requires room { 512 * (self.old.count / n) + 512 ≤ length self.old.buffer.now }
-        ensures bytes { self.new.buffer.now ≡ noted size n self.old.count rec.now self.old.buffer.now }
+        ensures bytes { self.new.buffer.now ≡ noted (length rec.now) n self.old.count rec.now self.old.buffer.now }
         ensures count { self.new.count ≡ self.old.count + 1 }
     {
-        let block = self.count / n;
-        let from = BLOCK * block;
-        let at = 4 + size * (self.count % n);
-        append(&mut self.buffer[from..from + BLOCK], block as u16, at, rec);
+        let number = self.count / n;
+        let from = BLOCK * number;
+        let records = from + RECORDS;
+        let at = records + rec.len() * (self.count % n);
+        let buffer = &mut *self.buffer;
+        let block = block_of(number as u16, &buffer[records..at], rec);
+        buffer[from..from + BLOCK].copy_from_slice(&block);
         self.count += 1;
     }
 }
 
 impl<'a> Recorder<'a> {
+    // How many bytes a record takes.
+    fn record_size(&self) -> usize
+        ensures { result ≡ self.now.header + 4 }
+    {
+        self.header as usize + AFTER_HEADER
+    }
+
+    // How many records have place in a block.
+    fn per_block(&self) -> usize
+        ensures { result ≡ 506 / (self.now.header + 4) }
+    {
+        MOST_USED / self.record_size()
+    }
+
+    // How many records have place in all.
+    fn places(&self) -> usize
+        ensures { result ≡ places_of self.now }
+    {
+        self.per_block() * self.blocks
+    }
+
     // Adds the record of a lawful exchange, where there is place for it; otherwise nothing changes.
     pub fn note(&mut self, exchange: Exchange) -> Result<(), NotNoted>
         ensures answer { result ≡ noting_answer exchange (length (made self.old)) (places_of self.old) }
@@ -58,13 +81,13 @@ impl<'a> Recorder<'a> {
         if !lawful(exchange) {
             return Err(NotNoted::Unlawful);
         }
-        let size = self.header as usize + AFTER_HEADER;
-        let n = MOST_USED / size;
-        if self.sheets.count >= n * self.blocks {
+        if self.sheets.count >= self.places() {
             return Err(NotNoted::Full);
         }
+        let size = self.record_size();
+        let n = self.per_block();
         let bytes = record_bytes(self.header, self.number, exchange);
-        self.sheets.note(size, n, &bytes[0..size]);
+        self.sheets.note(n, &bytes[..size]);
         Ok(())
     }
 
@@ -79,7 +102,7 @@ impl<'a> Recorder<'a> {
     pub fn place(&self) -> usize
         ensures { result ≡ places_of self.now - length (made self.now) }
     {
-        MOST_USED / (self.header as usize + AFTER_HEADER) * self.blocks - self.sheets.count
+        self.places() - self.sheets.count
     }
 
     // The bytes: the layout of the records made, which the check answers.

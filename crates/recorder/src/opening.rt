@@ -8,22 +8,22 @@ ghost use Rattle.recorder.specs.Made.{bytes_of, made};
 
 use crate::encoding::{NUMBERED_HEADER, PLAIN_HEADER};
 use crate::recorder::{Recorder, Sheets};
-use capture::block::{BLOCK, MOST_BLOCKS};
+use capture::block::{BLOCK, Block, whole_blocks};
 use capture::checksum;
 
 // The last word of a block, which brings the sum to 0, stands here.
 const LAST_WORD: usize = 510;
 
 // The record bytes of a block begin here.
-const RECORDS: usize = 4;
+pub(crate) const RECORDS: usize = 4;
 
-// Why no recorder can be opened.
+// Why no recorder can be opened, each with the number by which operators know it.
 #[derive(Clone, Copy, PartialEq, Eq, Debug)]
 pub enum Refusal {
     // Not 1 to 4,096 whole blocks.
-    Blocks,
+    Blocks = 3,
     // A header length other than 4 and 6.
-    Header,
+    Header = 4,
 }
 
 impl Refusal {
@@ -31,59 +31,42 @@ impl Refusal {
     pub fn number(self) -> u8
         ensures { result ≡ opening_number self }
     {
-        match self {
-            Refusal::Blocks => 3,
-            Refusal::Header => 4,
-        }
+        self as u8
     }
-}
-
-fn clear(bytes: &mut [u8])
-    ensures { bytes.new ≡ replicate (length bytes.old) 0 }
-{
-    for byte in bytes.iter_mut() {
-        *byte = 0;
-    }
-}
-
-// The word that brings a sum to 0.
-fn balance(sum: u16) -> u16
-    ensures { result ≡ (65536 - sum) % 65536 }
-{
-    0u16.wrapping_sub(sum)
 }
 
 // Sets the last word, so that the block adds up to 0.
-fn seal(block: &mut [u8])
-    requires { length block.old ≡ 512 }
+fn seal(block: &mut Block)
     ensures { block.new ≡ sealed (take 510 block.old) }
 {
-    let sum = checksum(&block[0..LAST_WORD]);
-    let [low, high] = balance(sum).to_le_bytes();
-    block[LAST_WORD] = low;
-    block[LAST_WORD + 1] = high;
+    let balance = checksum(&block[..LAST_WORD]).wrapping_neg();
+    block[LAST_WORD..].copy_from_slice(&balance.to_le_bytes());
 }
 
-// Number, used count, a record behind those that stand before it, and zeros: all but the last word.
-fn lay(block: &mut [u8], number: u16, at: usize, rec: &[u8])
-    requires { (length block.old ≡ 512) × ((4 ≤ at) × (at + length rec.now ≤ 510)) }
-    ensures { take 510 block.new ≡ unsealed number (take (at - 4) (drop 4 block.old) ++ rec.now) (zeros_after (take (at - 4) (drop 4 block.old) ++ rec.now)) }
+// Number, used count, the records before and a further one, and zeros: all but the last word.
+fn lay(block: &mut Block, number: u16, before: &[u8], rec: &[u8])
+    requires { length before.now + length rec.now ≤ 506 }
+    ensures { take 510 block.new ≡ unsealed number (before.now ++ rec.now) (zeros_after (before.now ++ rec.now)) }
 {
+    let at = RECORDS + before.len();
     let end = at + rec.len();
     let used = (end - RECORDS) as u16;
     block[0..2].copy_from_slice(&number.to_le_bytes());
     block[2..4].copy_from_slice(&used.to_le_bytes());
+    block[RECORDS..at].copy_from_slice(before);
     block[at..end].copy_from_slice(rec);
-    clear(&mut block[end..LAST_WORD]);
+    block[end..LAST_WORD].fill(0);
 }
 
-// Puts a record at a place of a block, behind which nothing stands.
-pub(crate) fn append(block: &mut [u8], number: u16, at: usize, rec: &[u8])
-    requires { (length block.old ≡ 512) × ((4 ≤ at) × (at + length rec.now ≤ 510)) }
-    ensures { block.new ≡ block_bytes number (take (at - 4) (drop 4 block.old) ++ rec.now) }
+// The block of that number with the records before and a further one.
+pub(crate) fn block_of(number: u16, before: &[u8], rec: &[u8]) -> Block
+    requires { length before.now + length rec.now ≤ 506 }
+    ensures { result ≡ block_bytes number (before.now ++ rec.now) }
 {
-    lay(block, number, at, rec);
-    seal(block);
+    let mut block = [0; BLOCK];
+    lay(&mut block, number, before, rec);
+    seal(&mut block);
+    block
 }
 
 // Fills the buffer with empty blocks.
@@ -91,13 +74,9 @@ fn fill_empty(buffer: &mut [u8], blocks: usize)
     requires { (length buffer.old ≡ 512 * blocks) × (blocks ≤ 4096) }
     ensures { buffer.new ≡ empty_blocks 0 blocks }
 {
+    // By index: of chunks_exact_mut and first_chunk_mut the library does not say what the buffer ends as.
     for b in 0..blocks {
-        append(
-            &mut buffer[BLOCK * b..BLOCK * b + BLOCK],
-            b as u16,
-            RECORDS,
-            &[],
-        );
+        buffer[BLOCK * b..BLOCK * b + BLOCK].copy_from_slice(&block_of(b as u16, &[], &[]));
     }
 }
 
@@ -106,7 +85,7 @@ impl<'a> Recorder<'a> {
     pub fn question(size: usize, header: u8) -> Result<(), Refusal>
         ensures { result ≡ opening size header }
     {
-        if size % BLOCK != 0 || size == 0 || size > MOST_BLOCKS * BLOCK {
+        if !whole_blocks(size) {
             return Err(Refusal::Blocks);
         }
         if header != PLAIN_HEADER && header != NUMBERED_HEADER {

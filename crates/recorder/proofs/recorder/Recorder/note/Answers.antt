@@ -1,15 +1,36 @@
-use Rattle.std.proofs.Common.{◌≡◌, ℕ, ◌+◌, ◌-◌, ◌<◌, true, length, take, sym, refl, ap, ◌∙◌, arith, rules}
-use native.Mathlib.Nat.{mul-div-le, sub-zero}
+use Rattle.std.proofs.Common.{◌≡◌, ℕ, ◌+◌, ◌/◌, ◌<◌, true, List, length, take, sym, refl, ap, ◌∙◌, arith, rules}
+use native.Mathlib.Nat.{mul-div-le}
 use Rattle.capture.specs.Records.{entry, written}
 use Rattle.capture.specs.Lawful.{writable}
 use Rattle.capture.specs.Exchanges.{record_of, exchange_is_lawful}
 use Rattle.capture.specs.Layout.{stamped}
+use Rattle.bus.specs.declared.exchange.Exchange.{Exchange}
 use Rattle.capture.proofs.Matching.{written as record-kept}
 use Rattle.capture.proofs.Rounds.{length-record, writable_since}
+use Rattle.recorder.specs.declared.recorder.Recorder.{Recorder}
 use Rattle.recorder.specs.Recording.{added_by}
+use Rattle.recorder.specs.Noting.{noted}
 use Rattle.recorder.proofs.Packing.{more, More, header_many, added_size}
 use Rattle.recorder.proofs.recorder.Recorder.note.Goals as goal
 use Rattle.recorder.proofs.recorder.Recorder.note.Goals.{After-note}
+
+-- the bytes of a record, and how many they are
+record Bytes (r : Recorder) (e : Exchange) (rec : List ℕ) : Type 0 where
+  pub stamped : rec ≡ stamped (added_by r.header r.number) (record_of e)
+  pub size : length rec ≡ r.header + 4
+
+bytes_of_record : (r : Recorder) (e : Exchange) (size : ℕ) (bytes : List ℕ) → size ≡ r.header + 4 → take (r.header + 4) bytes ≡ stamped (added_by r.header r.number) (record_of e) → Bytes r e (take size bytes)
+bytes_of_record r e size bytes h b =
+    let s = ap (λ (n : ℕ). take n bytes) h ∙ b in
+    record { stamped = s; size = ap length s ∙ (length-record (written 0 (entry (added_by r.header r.number) (record_of e))) ∙ sym (added_size r.header r.number r.allowed)) }
+
+pub note-requires : goal.note-requires
+note-requires c =
+    let s = c.args.self.now in
+    let b = bytes_of_record s c.args.exchange c.record_size-size.result c.record_bytes-bytes.result c.record_size-size.ensures c.record_bytes-bytes.ensures in
+    let n : c.per_block-n.result ≡ 506 / (s.header + 4) = c.per_block-n.ensures in
+    rw (b.size, n)
+    (record { many = header_many s.header s.allowed; fit = mul-div-le 506 (s.header + 4); low = search rules; short = search rules; room = search rules })
 
 grown : (c : goal.After-note)
     → More c.args.self.now.header c.args.self.now.number c.args.self.now.blocks c.args.self.now.sheets.count c.args.self.now.sheets.buffer.now (record_of c.args.exchange) c.note.new.self.buffer.now
@@ -19,28 +40,12 @@ grown c =
     let w : (record_of e).word < 65536 = search rules in
     let l : exchange_is_lawful e ≡ true = sym c.lawful.ensures ∙ c.if-not-lawful.false in
     let p : writable (record_of e) ≡ true = writable_since (record_of e) (record-kept e.request e.reply l).lawful w in
-    let z : (s.header + 4) - 0 ≡ s.header + 4 = sub-zero (s.header + 4) in
-    let r : take ((s.header + 4) - 0) c.record_bytes-bytes.result ≡ stamped (added_by s.header s.number) (record_of e) =
-    ap (λ (j : ℕ). take j c.record_bytes-bytes.result) z ∙ c.record_bytes-bytes.ensures
-    in
-    more s.header s.number s.blocks s.sheets.count s.sheets.buffer.now (record_of e) (take ((s.header + 4) - 0) c.record_bytes-bytes.result) c.note.new.self.buffer.now
-    s.allowed s.most s.many s.sound s.stands p r c.if-self-n.false c.note.ensures.bytes
-
-pub note-requires : goal.note-requires
-note-requires c =
-    let s = c.args.self.now in
-    let z : (s.header + 4) - 0 ≡ s.header + 4 = sub-zero (s.header + 4) in
-    record {
-      size =
-          ap (λ (j : ℕ). length (take j c.record_bytes-bytes.result)) z
-          ∙ (ap length c.record_bytes-bytes.ensures
-          ∙ (length-record (written 0 (entry (added_by s.header s.number) (record_of c.args.exchange))) ∙ sym (added_size s.header s.number s.allowed)));
-      many = header_many s.header s.allowed;
-      fit = mul-div-le 506 (s.header + 4);
-      low = search rules;
-      short = search rules;
-      room = search rules;
-    }
+    let rec : List ℕ = take c.record_size-size.result c.record_bytes-bytes.result in
+    let b = bytes_of_record s e c.record_size-size.result c.record_bytes-bytes.result c.record_size-size.ensures c.record_bytes-bytes.ensures in
+    more s.header s.number s.blocks s.sheets.count s.sheets.buffer.now (record_of e) rec c.note.new.self.buffer.now s.allowed s.most s.many s.sound s.stands p b.stamped (omega (arith, c.places.ensures))
+    (c.note.ensures.bytes
+    ∙ (ap (λ (n : ℕ). noted n c.per_block-n.result s.sheets.count rec s.sheets.buffer.now) b.size
+    ∙ ap (λ (n : ℕ). noted (s.header + 4) n s.sheets.count rec s.sheets.buffer.now) c.per_block-n.ensures))
 
 pub invariant_of-self : goal.invariant_of-self
 invariant_of-self c =
@@ -50,7 +55,7 @@ invariant_of-self c =
       allowed = s.allowed;
       most = s.most;
       whole = m.whole;
-      place = omega (arith, c.note.ensures.count, c.if-self-n.false);
+      place = omega (arith, c.note.ensures.count, c.places.ensures);
       many = m.many ∙ sym c.note.ensures.count;
       sound = m.sound;
       stands = m.stands;
