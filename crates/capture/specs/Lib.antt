@@ -2,6 +2,7 @@ pub mod Words
 pub mod Kinds
 pub mod Checksum
 pub mod Records
+pub mod Refusals
 pub mod Lawful
 pub mod Checking
 pub mod Remaining

@@ -7,6 +7,13 @@ pub const BLOCK: usize = 512;
 
 pub type Block = [u8; BLOCK];
 
+// The used count, the record bytes and the last word begin here.
+pub const USED: usize = 2;
+
+pub const RECORDS: usize = 4;
+
+pub const LAST_WORD: usize = 510;
+
 // Captures have 1 to so many blocks.
 pub const MOST_BLOCKS: usize = 4096;
 

@@ -10,31 +10,19 @@ use std::{fs, io};
 
 const NAME: &str = "capture.cap";
 
-fn refusal_text(refusal: Refusal) -> &'static str {
-    match refusal {
-        Refusal::Blocks => "not 1 to 4096 whole blocks",
-        Refusal::Number => "another block number than its place",
-        Refusal::Used => "more than 506 used bytes",
-        Refusal::Checksum => "the words do not add up to 0",
-        Refusal::Length => "no header length from 4 to 32, or the record ends past the used bytes",
-        Refusal::Fields => "fields that the record's kind does not allow",
-    }
-}
-
 // The refusal, and the block and byte that it speaks of.
 fn print_refusal(rt: &HostRuntime, refusal: Refusal, bytes: &[u8]) -> io::Result<()> {
     let number = refusal.number();
-    let text = refusal_text(refusal);
     let block = refused_block(bytes);
     if let Refusal::Blocks = refusal {
-        return println!(rt; "refused {number}: {text}");
+        return println!(rt; "refused {number}: {refusal}");
     }
     let start = BLOCK * block;
     if start > bytes.len() {
-        return println!(rt; "refused {number}: {text}");
+        return println!(rt; "refused {number}: {refusal}");
     }
     let byte = refused_byte(refusal, &bytes[start..]);
-    println!(rt; "refused {number}, block {block}, byte {byte}: {text}")
+    println!(rt; "refused {number}, block {block}, byte {byte}: {refusal}")
 }
 
 fn print_totals(rt: &HostRuntime, records: usize, totals: Totals) -> io::Result<()> {

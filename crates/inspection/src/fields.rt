@@ -1,52 +1,45 @@
 // The fields by which records are compared, and their texts.
 ghost use Rattle.std.specs.Prelude.{◌≡◌, ◌<◌, ◌≤◌, if◌then◌else◌};
+ghost use Rattle.capture.specs.Kinds.{kind_number};
 ghost use Rattle.capture.specs.Records.{plain};
 ghost use Rattle.capture.specs.Exchanges.{mark_of, answered_word};
 ghost use Rattle.capture.specs.Handed.{shown};
 ghost use Rattle.inspection.specs.Texts.{kind_text, mark_text, octal_text, hex_digit, hex_text};
 
-use capture::Record;
+use capture::{Kind, Record};
 
 // A record as records are compared; `answered` is its mark.
-#[derive(Clone, Copy)]
+#[derive(Clone, Copy, PartialEq, Eq, Debug)]
 pub struct Fields {
-    pub kind: u8,
+    pub kind: Kind,
     pub answered: bool,
     pub address: u16,
     pub word: u16,
 }
 
-fn of_reply(kind: u8, address: u16, reply: Option<u16>) -> Fields
-    ensures { plain result.kind (if result.answered then 1 else 0) result.address result.word ≡ plain kind (mark_of reply) address (answered_word reply) }
+fn of_reply(kind: Kind, address: u16, reply: Option<u16>) -> Fields
+    ensures { plain (kind_number result.kind) (if result.answered then 1 else 0) result.address result.word ≡ plain (kind_number kind) (mark_of reply) address (answered_word reply) }
 {
-    match reply {
-        Some(word) => Fields {
-            kind,
-            answered: true,
-            address,
-            word,
-        },
-        None => Fields {
-            kind,
-            answered: false,
-            address,
-            word: 0,
-        },
+    Fields {
+        kind,
+        answered: reply.is_some(),
+        address,
+        word: reply.unwrap_or(0),
     }
 }
 
 pub fn fields_of(rec: Record) -> Fields
-    ensures { plain result.kind (if result.answered then 1 else 0) result.address result.word ≡ shown rec.entry }
+    ensures { plain (kind_number result.kind) (if result.answered then 1 else 0) result.address result.word ≡ shown rec.entry }
 {
     match rec {
-        Record::Read { address, reply, .. } => of_reply(1, address, reply),
+        Record::Read { address, reply, .. } => of_reply(Kind::Read, address, reply),
         Record::Write {
             address,
             word,
             answered,
             ..
         } => Fields {
-            kind: 2,
+            kind: Kind::Write,
             answered,
             address,
             word,
@@ -57,24 +50,14 @@ pub fn fields_of(rec: Record) -> Fields
             answered,
             ..
         } => Fields {
-            kind: 3,
+            kind: Kind::WriteByte,
             answered,
             address,
             word: u16::from(byte),
         },
-        Record::Lines { word, .. } => Fields {
-            kind: 4,
-            answered: true,
-            address: 0,
-            word,
-        },
-        Record::Vector { reply, .. } => of_reply(5, 0, reply),
-        Record::Init { .. } => Fields {
-            kind: 6,
-            answered: true,
-            address: 0,
-            word: 0,
-        },
+        Record::Lines { word, .. } => of_reply(Kind::Lines, 0, Some(word)),
+        Record::Vector { reply, .. } => of_reply(Kind::Vector, 0, reply),
+        Record::Init { .. } => of_reply(Kind::Init, 0, Some(0)),
     }
 }
 
@@ -82,13 +65,13 @@ pub fn fields_of(rec: Record) -> Fields
 pub fn kind_text(kind: u8) -> &'static str
     ensures { result.now ≡ kind_text kind }
 {
-    match kind {
-        1 => "word read",
-        2 => "word write",
-        3 => "byte write",
-        4 => "lines",
-        5 => "vector",
-        _ => "INIT",
+    match Kind::try_from(kind) {
+        Ok(Kind::Read) => "word read",
+        Ok(Kind::Write) => "word write",
+        Ok(Kind::WriteByte) => "byte write",
+        Ok(Kind::Lines) => "lines",
+        Ok(Kind::Vector) => "vector",
+        Ok(Kind::Init) | Err(_) => "INIT",
     }
 }
 

@@ -45,7 +45,7 @@ pub fn record_line(heap: Global, number: usize, rec: Record) -> Result<String, A
     ensures { IfOk result (λ s. string_bytes s ≡ line_text number (shown rec.entry) (added_of rec.entry)) }
 {
     let fields = fields_of(rec);
-    let kind = kind_text(fields.kind);
+    let kind = kind_text(fields.kind.number());
     let mark = mark_text(fields.answered);
     let mut line = format!(in heap; "{number}: {kind}, {mark}, address ")?;
     push_ascii(&mut line, &octal(fields.address))?;

@@ -1,10 +1,10 @@
 // Counts of the records of a capture.
 ghost use Rattle.std.specs.Prelude.{◌≡◌};
 ghost use Rattle.capture.specs.Handed.{shown};
-ghost use Rattle.inspection.specs.Tallies.{counted};
+ghost use Rattle.inspection.specs.Tallies.{counted, more};
 
 use crate::fields::{Fields, fields_of};
-use capture::Record;
+use capture::{Kind, Record};
 
 // How many records there are of each kind, and how many timed out. No capture has enough to reach the largest count.
 #[derive(Clone, Copy, Default)]
@@ -18,6 +18,13 @@ pub struct Totals {
     pub timed_out: u32,
 }
 
+// One more, up to the largest count.
+fn count_one(count: &mut u32)
+    ensures { count.new ≡ more count.old }
+{
+    *count = count.saturating_add(1);
+}
+
 impl Totals {
     // Counts one record more.
     pub fn count(&mut self, rec: Record)
@@ -25,15 +32,15 @@ impl Totals {
     {
         let Fields { kind, answered, .. } = fields_of(rec);
         match kind {
-            1 => self.reads = self.reads.saturating_add(1),
-            2 => self.writes = self.writes.saturating_add(1),
-            3 => self.byte_writes = self.byte_writes.saturating_add(1),
-            4 => self.lines = self.lines.saturating_add(1),
-            5 => self.vectors = self.vectors.saturating_add(1),
-            _ => self.inits = self.inits.saturating_add(1),
+            Kind::Read => count_one(&mut self.reads),
+            Kind::Write => count_one(&mut self.writes),
+            Kind::WriteByte => count_one(&mut self.byte_writes),
+            Kind::Lines => count_one(&mut self.lines),
+            Kind::Vector => count_one(&mut self.vectors),
+            Kind::Init => count_one(&mut self.inits),
         }
         if !answered {
-            self.timed_out = self.timed_out.saturating_add(1);
+            count_one(&mut self.timed_out);
         }
     }
 }

@@ -53,7 +53,7 @@ pub(crate) fn lawful(exchange: Exchange) -> bool
     }
 }
 
-// The bytes of a record under header length 4 or 6, with zeros past them: with no heap, the longest record's bytes are lent.
+// The bytes of a record under header length 4 or 6, with zeros past them. With no heap they stand in an array for the longest record.
 pub(crate) fn record_bytes(header: u8, number: u16, exchange: Exchange) -> [u8; LONGEST]
     requires { (header ≡ 4) ⊎ (header ≡ 6) }
     ensures { take (header + 4) result ≡ stamped (added_by header number) (record_of exchange) }

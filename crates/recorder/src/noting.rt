@@ -11,10 +11,10 @@ ghost use Rattle.recorder.specs.Noting.{noting_answer, noted};
 ghost use Rattle.recorder.specs.Made.{bytes_of, made, places_of};
 
 use crate::encoding::{lawful, record_bytes};
-use crate::opening::{RECORDS, block_of};
+use crate::opening::block_of;
 use crate::recorder::{Recorder, Sheets};
 use bus::Exchange;
-use capture::block::{AFTER_HEADER, BLOCK, MOST_USED};
+use capture::block::{AFTER_HEADER, BLOCK, MOST_USED, RECORDS};
 
 // Why an exchange was not noted.
 #[derive(Clone, Copy, PartialEq, Eq, Debug)]

@@ -8,14 +8,8 @@ ghost use Rattle.recorder.specs.Made.{bytes_of, made};
 
 use crate::encoding::{NUMBERED_HEADER, PLAIN_HEADER};
 use crate::recorder::{Recorder, Sheets};
-use capture::block::{BLOCK, Block, whole_blocks};
+use capture::block::{BLOCK, Block, LAST_WORD, RECORDS, USED, whole_blocks};
 use capture::checksum;
-
-// The last word of a block, which brings the sum to 0, stands here.
-const LAST_WORD: usize = 510;
-
-// The record bytes of a block begin here.
-pub(crate) const RECORDS: usize = 4;
 
 // Why no recorder can be opened, each with the number by which operators know it.
 #[derive(Clone, Copy, PartialEq, Eq, Debug)]
@@ -51,8 +45,8 @@ fn lay(block: &mut Block, number: u16, before: &[u8], rec: &[u8])
     let at = RECORDS + before.len();
     let end = at + rec.len();
     let used = (end - RECORDS) as u16;
-    block[0..2].copy_from_slice(&number.to_le_bytes());
-    block[2..4].copy_from_slice(&used.to_le_bytes());
+    block[0..USED].copy_from_slice(&number.to_le_bytes());
+    block[USED..RECORDS].copy_from_slice(&used.to_le_bytes());
     block[RECORDS..at].copy_from_slice(before);
     block[at..end].copy_from_slice(rec);
     block[end..LAST_WORD].fill(0);

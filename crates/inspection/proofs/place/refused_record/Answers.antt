@@ -1,26 +1,21 @@
-use Rattle.std.proofs.Common.{ℕ, ◌+◌, List, is_err, sym, ap, ◌∙◌, arith, rules}
-use Rattle.std.proofs.lemmas.List.{take_rest, drop_all}
-use Rattle.capture.specs.Checking.{one_read, verdict}
+use Rattle.std.proofs.Common.{◌≡◌, ◌+◌, ◌-◌, ◌≤◌, length, drop, get_or, is_err, sym, ap, ◌∙◌, arith, rules, length-drop}
+use Rattle.std.proofs.lemmas.List.{take_rest}
 use Rattle.inspection.specs.Places.{record_from}
-use Rattle.inspection.proofs.Finding.{record_at, stop, go_on}
+use Rattle.inspection.proofs.Finding.{record_first, go_on}
+use Rattle.capture.specs.Checking.{one_read, verdict}
 use Rattle.inspection.proofs.place.refused_record.Goals as goal
 
-pub returns-then-is_err : goal.returns-then-is_err
-returns-then-is_err c =
-    let xs = c.args.bytes.now in
-    let at = c.loop-at.at in
-    let t = ap (λ (ys : List ℕ). is_err (verdict (one_read ys))) (sym (take_rest xs at)) ∙ (ap is_err (sym c.check_record.ensures) ∙ (sym c.is_err.ensures.value ∙ c.if-is_err.true)) in
-    stop _ (4 + at) _ _ t (sym (record_at xs at c.loop-at-test.true) ∙ c.loop-at.invariant.0)
-
-pub loop-at-preserved : goal.loop-at-preserved
-loop-at-preserved c =
-    let xs = c.args.bytes.now in
-    let at = c.loop-at.at in
-    let t = ap (λ (ys : List ℕ). is_err (verdict (one_read ys))) (sym (take_rest xs at)) ∙ (ap is_err (sym c.check_record.ensures) ∙ (sym c.is_err.ensures.value ∙ c.if-is_err.false)) in
-    (go_on _ (4 + at) _ _ t (sym (record_at xs at c.loop-at-test.true) ∙ c.loop-at.invariant.0), search rules)
-
-pub returns : goal.returns
-returns c =
-    let xs = c.args.bytes.now in
-    let at = c.loop-at.at in
-    ap (record_from (4 + at) 0) (sym (drop_all at xs (omega arith))) ∙ c.loop-at.invariant.0
+pub loop-rest-preserved : goal.loop-rest-preserved
+loop-rest-preserved c =
+    let xs = c.loop-rest.rest.now in
+    let all = c.args.bytes.now in
+    let n = get_or xs 0 0 + 4 in
+    let m : n ≤ length xs = search rules in
+    let l = length-drop n xs in
+    let p : (4 + (length all - length xs)) + n ≡ 4 + (length all - length (drop n xs)) = omega (arith, c.loop-rest.invariant.within) in
+    let t = ap is_err (sym c.check_record.ensures) ∙ c.if-is_ok.ensures.negation in
+    rw (take_rest xs n)
+    (record {
+      found = ap (λ j. record_from j 0 (drop n xs)) (sym p) ∙ go_on (is_err (verdict (one_read xs))) (4 + (length all - length xs)) _ _ t (sym (record_first (4 + (length all - length xs)) xs (omega arith)) ∙ c.loop-rest.invariant.found);
+      within = omega (arith, c.loop-rest.invariant.within);
+    })

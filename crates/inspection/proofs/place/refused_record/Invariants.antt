@@ -1,9 +1,10 @@
-use Rattle.std.proofs.Common.{◌≡◌, ◌+◌, ◌-◌, ◌≤◌, length, drop}
+use Rattle.std.proofs.Common.{◌≡◌, ◌+◌, ◌-◌, ◌≤◌, length}
 use Rattle.inspection.specs.Places.{record_from}
 use Rattle.inspection.proofs.place.refused_record.Given as goal
 
-abbrev pub invariant-loop-at : goal.invariant-loop-at
-invariant-loop-at l = (record_from (4 + l.at) 0 (drop l.at l.bytes) ≡ record_from 4 0 l.bytes) × (l.at ≤ length l.bytes + 259)
+abbrev pub invariant-loop-rest : goal.invariant-loop-rest
+invariant-loop-rest l =
+    record { found : record_from (4 + (length l.bytes - length l.rest)) 0 l.rest ≡ record_from 4 0 l.bytes; within : length l.rest ≤ length l.bytes }
 
-abbrev pub decreases-loop-at : goal.decreases-loop-at
-decreases-loop-at l = length l.bytes - l.at
+abbrev pub decreases-loop-rest : goal.decreases-loop-rest
+decreases-loop-rest l = length l.rest
