@@ -1,29 +1,25 @@
 // The line of a record.
-ghost use Rattle.std.specs.Prelude.{◌≡◌, ℕ, ◌<◌, ◌++◌, length, IfOk, string_bytes, OnOk, slice_index};
+ghost use Rattle.std.specs.Prelude.{◌≡◌, ◌++◌, IfOk, string_bytes, OnOk};
 ghost use Rattle.capture.specs.Handed.{shown, added_of};
-ghost use Rattle.inspection.specs.Texts.{bytes_text, added_text, line_text};
+ghost use Rattle.inspection.specs.Texts.{octal_text, bytes_text, added_text, line_text};
 
-use crate::fields::{fields_of, hex, kind_text, mark_text, octal};
+use crate::fields::{Fields, fields_of, kind_text, mark_text};
 use capture::Record;
 use std::alloc::{AllocError, Global};
 
-// Adds ASCII bytes to a line.
-fn push_ascii(line: &mut String, bytes: &[u8]) -> Result<(), AllocError>
-    requires { (k : ℕ) → k < length bytes.now → slice_index bytes.now k < 128 }
-    ensures { OnOk result (string_bytes line.new ≡ string_bytes line.old ++ bytes.now) }
+// Adds a word in six octal digits.
+fn push_octal(line: &mut String, word: u16) -> Result<(), AllocError>
+    ensures { OnOk result (string_bytes line.new ≡ string_bytes line.old ++ octal_text word) }
 {
-    for b in bytes {
-        line.push(*b as char)?;
-    }
-    Ok(())
+    write!(line, "{word:06o}")
 }
 
 // Adds a space and two digits for each byte.
 fn push_bytes(line: &mut String, bytes: &[u8]) -> Result<(), AllocError>
     ensures { OnOk result (string_bytes line.new ≡ string_bytes line.old ++ bytes_text bytes.now) }
 {
-    for b in bytes {
-        push_ascii(line, &hex(*b))?;
+    for byte in bytes {
+        write!(line, " {byte:02X}")?;
     }
     Ok(())
 }
@@ -44,13 +40,18 @@ fn push_added(line: &mut String, added: &[u8]) -> Result<(), AllocError>
 pub fn record_line(heap: Global, number: usize, rec: Record) -> Result<String, AllocError>
     ensures { IfOk result (λ s. string_bytes s ≡ line_text number (shown rec.entry) (added_of rec.entry)) }
 {
-    let fields = fields_of(rec);
-    let kind = kind_text(fields.kind.number());
-    let mark = mark_text(fields.answered);
+    let Fields {
+        kind,
+        answered,
+        address,
+        word,
+    } = fields_of(rec);
+    let kind = kind_text(kind.number());
+    let mark = mark_text(answered);
     let mut line = format!(in heap; "{number}: {kind}, {mark}, address ")?;
-    push_ascii(&mut line, &octal(fields.address))?;
+    push_octal(&mut line, address)?;
     line.push_str(", word ")?;
-    push_ascii(&mut line, &octal(fields.word))?;
+    push_octal(&mut line, word)?;
     push_added(&mut line, rec.added())?;
     Ok(line)
 }

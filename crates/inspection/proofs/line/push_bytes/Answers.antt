@@ -1,17 +1,14 @@
-use Rattle.std.proofs.Common.{ℕ, List, ◌++◌, string_bytes, ap, ◌∙◌}
-use Rattle.std.proofs.lemmas.List.{take_all}
-use Rattle.inspection.specs.Texts.{bytes_text}
-use Rattle.inspection.proofs.Writing.{digits_more}
+use Rattle.std.proofs.Common.{◌≡◌, ℕ, List, ◌++◌, string_bytes, get_or, refl, arith, subst, Option}
+use Rattle.std.specs.Fmt.{AppendsText}
+use Rattle.inspection.specs.Texts.{hex_text}
+use Rattle.inspection.proofs.Writing.{digits_more, hex_piece}
 use Rattle.inspection.proofs.line.push_bytes.Goals as goal
 
-pub loop-b-preserved : goal.loop-b-preserved
-loop-b-preserved c =
+pub loop-byte-preserved : goal.loop-byte-preserved
+loop-byte-preserved c =
     let xs = c.args.bytes.now in
-    let i = c.loop-b.b-index in
-    digits_more (string_bytes c.args.line.now) xs (string_bytes c.loop-b.line) (string_bytes c.push_ascii.new.line) _ i c.loop-b-test.true c.loop-b.invariant
-    c.in_ok-push_ascii.ensures c.hex.ensures
-
-pub returns : goal.returns
-returns c =
-    let xs = c.args.bytes.now in
-    c.loop-b.invariant ∙ ap (λ (ys : List ℕ). string_bytes c.args.line.now ++ bytes_text ys) (take_all c.loop-b.b-index xs c.loop-b-test.false)
+    let i = c.loop-byte.byte-index in
+    let p = hex_piece (get_or xs i 0) c.in_radix.result c.laid_out.result (omega (arith, c.type_inv.bytes i)) c.in_radix.ensures c.laid_out.ensures in
+    let P : Option (List ℕ) → Type 0 = AppendsText (string_bytes c.loop-byte.line) (string_bytes c.write.new.self) in
+    let w : string_bytes c.write.new.self ≡ string_bytes c.loop-byte.line ++ hex_text (get_or xs i 0) = subst P p c.in_ok-write.ensures.bytes in
+    digits_more (string_bytes c.args.line.now) xs (string_bytes c.loop-byte.line) (string_bytes c.write.new.self) _ i c.loop-byte-test.true c.loop-byte.invariant w refl
