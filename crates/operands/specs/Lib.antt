@@ -1,4 +1,5 @@
 pub mod State
+pub mod Machines
 pub mod Operands
 pub mod Sameness
 pub mod SamenessLaws

@@ -2,8 +2,10 @@
 ghost use Rattle.std.specs.Prelude.{◌≡◌};
 ghost use Rattle.bus.specs.Courses.{Played};
 ghost use Rattle.operands.specs.State.{beside};
+ghost use Rattle.operands.specs.Machines.{Ran};
 ghost use Rattle.operands.specs.Operands.{fetches, stride, points, indexes, index_points, locates, half, loads_byte, takes, gives};
 
+use crate::machine::Machine;
 use crate::state::Processor;
 use bus::{Board, Cabinet, Gone, load, store, store_byte};
 use isa::{Operand, Register, Size};
@@ -13,19 +15,6 @@ use isa::{Operand, Register, Size};
 pub enum Location {
     InRegister(Register),
     InMemory(u16),
-}
-
-// The word at PC, which rises past it.
-pub fn fetch<B: Board, C: Cabinet>(
-    p: &mut Processor,
-    board: &mut B,
-    side: &mut C,
-) -> Result<Option<u16>, Gone>
-    ensures { Played C.Cabinet.meaning C.Cabinet.becomes (fetches p.old) (B.Board.meaning board.old) side.old (beside result p.new) (B.Board.meaning board.new) side.new }
-{
-    let at = p.register(Register::Pc);
-    p.set_register(Register::Pc, at.wrapping_add(2));
-    load(board, side, at)
 }
 
 // How far modes 2 and 4 move a register.
@@ -39,45 +28,165 @@ fn stride_of(size: Size, r: Register) -> u16
     }
 }
 
+// The half of a word that an address names.
+fn half_of(at: u16, word: u16) -> u16
+    ensures { result ≡ half at word }
+{
+    u16::from(word.to_le_bytes()[usize::from(at % 2)])
+}
+
+#[tactic(auto, unfolding(crate::specs::Operands::points))]
 fn point<B: Board, C: Cabinet>(
     board: &mut B,
     side: &mut C,
     at: u16,
 ) -> Result<Option<Location>, Gone>
-    ensures { Played C.Cabinet.meaning C.Cabinet.becomes (points at) (B.Board.meaning board.old) side.old result (B.Board.meaning board.new) side.new }
+    ensures { Played C.meaning C.becomes (points at) (B.meaning board.old) side.old result (B.meaning board.new) side.new }
 {
-    let Some(pointer) = load(board, side, at)? else {
-        return Ok(None);
-    };
-    Ok(Some(Location::InMemory(pointer)))
+    Ok(load(board, side, at)?.map(Location::InMemory))
 }
 
-fn index<B: Board, C: Cabinet>(
-    p: &mut Processor,
+#[tactic(auto, unfolding(crate::specs::Operands::loads_byte))]
+fn load_byte<B: Board, C: Cabinet>(
     board: &mut B,
     side: &mut C,
-    r: Register,
+    at: u16,
 ) -> Result<Option<u16>, Gone>
-    ensures { Played C.Cabinet.meaning C.Cabinet.becomes (indexes r p.old) (B.Board.meaning board.old) side.old (beside result p.new) (B.Board.meaning board.new) side.new }
+    ensures { Played C.meaning C.becomes (loads_byte at) (B.meaning board.old) side.old result (B.meaning board.new) side.new }
 {
-    let Some(word) = fetch(p, board, side)? else {
-        return Ok(None);
-    };
-    Ok(Some(word.wrapping_add(p.register(r))))
+    Ok(load(board, side, at)?.map(|word| half_of(at, word)))
 }
 
-fn index_point<B: Board, C: Cabinet>(
+// What an operand holds. The processor is only looked at, so that it need not be a machine's.
+#[tactic(auto, unfolding(crate::specs::Operands::takes))]
+pub fn take<B: Board, C: Cabinet>(
+    p: &Processor,
+    board: &mut B,
+    side: &mut C,
+    size: Size,
+    location: Location,
+) -> Result<Option<u16>, Gone>
+    ensures { Played C.meaning C.becomes (takes size location p.now) (B.meaning board.old) side.old result (B.meaning board.new) side.new }
+{
+    match (size, location) {
+        (Size::Word, Location::InRegister(r)) => Ok(Some(p.register(r))),
+        (Size::Byte, Location::InRegister(r)) => Ok(Some(half_of(0, p.register(r)))),
+        (Size::Word, Location::InMemory(at)) => load(board, side, at),
+        (Size::Byte, Location::InMemory(at)) => load_byte(board, side, at),
+    }
+}
+
+impl<B: Board, C: Cabinet> Machine<'_, B, C> {
+    // The word at PC, which rises past it.
+    #[tactic(auto, unfolding(crate::specs::Operands::fetches))]
+    pub fn fetch(&mut self) -> Result<Option<u16>, Gone>
+        ensures { Ran B.Board C.Cabinet fetches self.old (beside result self.new.processor.now) self.new }
+    {
+        let at = self.processor.register(Register::Pc);
+        self.processor
+            .set_register(Register::Pc, at.wrapping_add(2));
+        load(self.board, self.side, at)
+    }
+
+    #[tactic(auto, unfolding(crate::specs::Operands::indexes))]
+    fn index(&mut self, r: Register) -> Result<Option<u16>, Gone>
+        ensures { Ran B.Board C.Cabinet (indexes r) self.old (beside result self.new.processor.now) self.new }
+    {
+        let Some(word) = self.fetch()? else {
+            return Ok(None);
+        };
+        Ok(Some(word.wrapping_add(self.processor.register(r))))
+    }
+
+    #[tactic(auto, unfolding(crate::specs::Operands::index_points))]
+    fn index_point(&mut self, r: Register) -> Result<Option<Location>, Gone>
+        ensures { Ran B.Board C.Cabinet (index_points r) self.old (beside result self.new.processor.now) self.new }
+    {
+        let Some(at) = self.index(r)? else {
+            return Ok(None);
+        };
+        point(self.board, self.side, at)
+    }
+
+    // Where an operand lies.
+    #[tactic(auto, unfolding(crate::specs::Operands::locates))]
+    pub fn locate(&mut self, size: Size, operand: Operand) -> Result<Option<Location>, Gone>
+        ensures { Ran B.Board C.Cabinet (locates size operand) self.old (beside result self.new.processor.now) self.new }
+    {
+        match operand {
+            Operand::Direct(r) => Ok(Some(Location::InRegister(r))),
+            Operand::Deferred(r) => Ok(Some(Location::InMemory(self.processor.register(r)))),
+            Operand::Increment(r) => {
+                let at = self.processor.register(r);
+                self.processor
+                    .set_register(r, at.wrapping_add(stride_of(size, r)));
+                Ok(Some(Location::InMemory(at)))
+            }
+            Operand::IncrementDeferred(r) => {
+                let at = self.processor.register(r);
+                self.processor.set_register(r, at.wrapping_add(2));
+                point(self.board, self.side, at)
+            }
+            Operand::Decrement(r) => {
+                let at = self.processor.register(r).wrapping_sub(stride_of(size, r));
+                self.processor.set_register(r, at);
+                Ok(Some(Location::InMemory(at)))
+            }
+            Operand::DecrementDeferred(r) => {
+                let at = self.processor.register(r).wrapping_sub(2);
+                self.processor.set_register(r, at);
+                point(self.board, self.side, at)
+            }
+            Operand::Index(r) => Ok(self.index(r)?.map(Location::InMemory)),
+            Operand::IndexDeferred(r) => self.index_point(r),
+        }
+    }
+
+    // What an operand holds.
+    pub fn take(&mut self, size: Size, location: Location) -> Result<Option<u16>, Gone>
+        ensures ran { Ran B.Board C.Cabinet (takes size location) self.old result self.new }
+        ensures left { self.new.processor.now ≡ self.old.processor.now }
+    {
+        take(self.processor, self.board, self.side, size, location)
+    }
+
+    // Writes an operand.
+    #[tactic(auto, unfolding(crate::specs::Operands::gives))]
+    pub fn give(&mut self, size: Size, location: Location, value: u16) -> Result<Option<()>, Gone>
+        ensures { Ran B.Board C.Cabinet (gives size location value) self.old (beside result self.new.processor.now) self.new }
+    {
+        let [low, _] = value.to_le_bytes();
+        match (size, location) {
+            (Size::Word, Location::InRegister(r)) => {
+                self.processor.set_register(r, value);
+                Ok(Some(()))
+            }
+            (Size::Byte, Location::InRegister(r)) => {
+                let [_, high] = self.processor.register(r).to_le_bytes();
+                self.processor
+                    .set_register(r, u16::from_le_bytes([low, high]));
+                Ok(Some(()))
+            }
+            (Size::Word, Location::InMemory(at)) => store(self.board, self.side, at, value),
+            (Size::Byte, Location::InMemory(at)) => store_byte(self.board, self.side, at, low),
+        }
+    }
+}
+
+// The word at PC, which rises past it.
+pub fn fetch<B: Board, C: Cabinet>(
     p: &mut Processor,
     board: &mut B,
     side: &mut C,
-    r: Register,
-) -> Result<Option<Location>, Gone>
-    ensures { Played C.Cabinet.meaning C.Cabinet.becomes (index_points r p.old) (B.Board.meaning board.old) side.old (beside result p.new) (B.Board.meaning board.new) side.new }
+) -> Result<Option<u16>, Gone>
+    ensures { Played C.meaning C.becomes (fetches p.old) (B.meaning board.old) side.old (beside result p.new) (B.meaning board.new) side.new }
 {
-    let Some(at) = index(p, board, side, r)? else {
-        return Ok(None);
-    };
-    point(board, side, at)
+    Machine {
+        processor: p,
+        board,
+        side,
+    }
+    .fetch()
 }
 
 // Where an operand lies.
@@ -88,77 +197,14 @@ pub fn locate<B: Board, C: Cabinet>(
     size: Size,
     operand: Operand,
 ) -> Result<Option<Location>, Gone>
-    ensures { Played C.Cabinet.meaning C.Cabinet.becomes (locates size operand p.old) (B.Board.meaning board.old) side.old (beside result p.new) (B.Board.meaning board.new) side.new }
+    ensures { Played C.meaning C.becomes (locates size operand p.old) (B.meaning board.old) side.old (beside result p.new) (B.meaning board.new) side.new }
 {
-    match operand {
-        Operand::Direct(r) => Ok(Some(Location::InRegister(r))),
-        Operand::Deferred(r) => Ok(Some(Location::InMemory(p.register(r)))),
-        Operand::Increment(r) => {
-            let at = p.register(r);
-            p.set_register(r, at.wrapping_add(stride_of(size, r)));
-            Ok(Some(Location::InMemory(at)))
-        }
-        Operand::IncrementDeferred(r) => {
-            let at = p.register(r);
-            p.set_register(r, at.wrapping_add(2));
-            point(board, side, at)
-        }
-        Operand::Decrement(r) => {
-            let at = p.register(r).wrapping_sub(stride_of(size, r));
-            p.set_register(r, at);
-            Ok(Some(Location::InMemory(at)))
-        }
-        Operand::DecrementDeferred(r) => {
-            let at = p.register(r).wrapping_sub(2);
-            p.set_register(r, at);
-            point(board, side, at)
-        }
-        Operand::Index(r) => {
-            let Some(at) = index(p, board, side, r)? else {
-                return Ok(None);
-            };
-            Ok(Some(Location::InMemory(at)))
-        }
-        Operand::IndexDeferred(r) => index_point(p, board, side, r),
+    Machine {
+        processor: p,
+        board,
+        side,
     }
-}
-
-// The half of a word that an address names.
-fn half_of(at: u16, word: u16) -> u16
-    ensures { result ≡ half at word }
-{
-    if at % 2 == 0 { word % 256 } else { word / 256 }
-}
-
-fn load_byte<B: Board, C: Cabinet>(
-    board: &mut B,
-    side: &mut C,
-    at: u16,
-) -> Result<Option<u16>, Gone>
-    ensures { Played C.Cabinet.meaning C.Cabinet.becomes (loads_byte at) (B.Board.meaning board.old) side.old result (B.Board.meaning board.new) side.new }
-{
-    let Some(word) = load(board, side, at)? else {
-        return Ok(None);
-    };
-    Ok(Some(half_of(at, word)))
-}
-
-// What an operand holds.
-pub fn take<B: Board, C: Cabinet>(
-    p: &Processor,
-    board: &mut B,
-    side: &mut C,
-    size: Size,
-    location: Location,
-) -> Result<Option<u16>, Gone>
-    ensures { Played C.Cabinet.meaning C.Cabinet.becomes (takes size location p.now) (B.Board.meaning board.old) side.old result (B.Board.meaning board.new) side.new }
-{
-    match (size, location) {
-        (Size::Word, Location::InRegister(r)) => Ok(Some(p.register(r))),
-        (Size::Byte, Location::InRegister(r)) => Ok(Some(p.register(r) % 256)),
-        (Size::Word, Location::InMemory(at)) => load(board, side, at),
-        (Size::Byte, Location::InMemory(at)) => load_byte(board, side, at),
-    }
+    .locate(size, operand)
 }
 
 // Writes an operand.
@@ -170,18 +216,12 @@ pub fn give<B: Board, C: Cabinet>(
     location: Location,
     value: u16,
 ) -> Result<Option<()>, Gone>
-    ensures { Played C.Cabinet.meaning C.Cabinet.becomes (gives size location value p.old) (B.Board.meaning board.old) side.old (beside result p.new) (B.Board.meaning board.new) side.new }
+    ensures { Played C.meaning C.becomes (gives size location value p.old) (B.meaning board.old) side.old (beside result p.new) (B.meaning board.new) side.new }
 {
-    match (size, location) {
-        (Size::Word, Location::InRegister(r)) => {
-            p.set_register(r, value);
-            Ok(Some(()))
-        }
-        (Size::Byte, Location::InRegister(r)) => {
-            p.set_register(r, p.register(r) / 256 * 256 + value % 256);
-            Ok(Some(()))
-        }
-        (Size::Word, Location::InMemory(at)) => store(board, side, at, value),
-        (Size::Byte, Location::InMemory(at)) => store_byte(board, side, at, (value % 256) as u8),
+    Machine {
+        processor: p,
+        board,
+        side,
     }
+    .give(size, location, value)
 }
