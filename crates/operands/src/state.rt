@@ -8,16 +8,17 @@ use bus::LineBits;
 use isa::Register;
 
 // Whether the processor runs, stopped at a HALT, died while entering a vector, or lost its cabinet side.
-#[derive(Clone, Copy, PartialEq, Eq)]
+#[derive(Clone, Copy, Default, PartialEq, Eq)]
 pub enum Life {
     Running,
+    #[default]
     Halted,
     Dead,
     Ended,
 }
 
 // Requests set by a line that became active, and not entered yet.
-#[derive(Clone, Copy, PartialEq, Eq)]
+#[derive(Clone, Copy, Default, PartialEq, Eq)]
 pub struct Requests {
     pub aclo: bool,
     pub irq2: bool,
@@ -25,7 +26,7 @@ pub struct Requests {
 }
 
 // R0 to R7, the status word PSW, the lines as last sampled, the requests, the trace and waiting marks, and life.
-#[derive(Clone, Copy)]
+#[derive(Clone, Copy, Default)]
 pub struct Processor {
     pub registers: [u16; 8],
     pub psw: u16,
@@ -52,25 +53,14 @@ impl Processor {
     }
 }
 
-fn same_registers(a: &[u16; 8], b: &[u16; 8]) -> bool
-    ensures { Decides result (a.now ≡ b.now) }
-{
-    a == b
-}
-
-fn same_lines(a: LineBits, b: LineBits) -> bool
-    ensures { Decides result (a ≡ b) }
-{
-    a.aclo == b.aclo && a.irq2 == b.irq2 && a.irq3 == b.irq3 && a.virq == b.virq
-}
-
+// Whether requests, marks and lives are the same.
 fn same_marks(a: &Processor, b: &Processor) -> bool
     ensures { Decides result ((a.now.requests ≡ b.now.requests) × (a.now.trace ≡ b.now.trace) × (a.now.waiting ≡ b.now.waiting) × (a.now.life ≡ b.now.life)) }
 {
     a.requests == b.requests && a.trace == b.trace && a.waiting == b.waiting && a.life == b.life
 }
 
-// States are equal in all their parts.
+// States are equal in all their parts. Not derived: a derived `==` promises its own test alone, and not that this decides.
 impl PartialEq for Processor {
     ghost eq = { same_state };
 
@@ -80,9 +70,9 @@ impl PartialEq for Processor {
         ensures answer { result ≡ same_state self.now other.now }
         ensures decides { Decides result (self.now ≡ other.now) }
     {
-        same_registers(&self.registers, &other.registers)
+        self.registers == other.registers
             && self.psw == other.psw
-            && same_lines(self.lines, other.lines)
+            && self.lines == other.lines
             && same_marks(self, other)
     }
 }
