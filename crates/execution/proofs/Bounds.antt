@@ -1,5 +1,5 @@
 -- How many exchanges an instruction takes at most: three for a source, four for a destination.
-use Rattle.std.proofs.Common.{ℕ, lit≤}
+use Rattle.std.proofs.Common.{ℕ, Option, lit≤}
 use Rattle.isa.specs.declared.operand.Register.{Register}
 use Rattle.isa.specs.declared.operand.Operand.{Operand}
 use Rattle.isa.specs.declared.instruction.Size.{Size}
@@ -11,6 +11,7 @@ use Rattle.isa.specs.declared.instruction.DoubleOperation.TheVariants.{Mov, Cmp,
 use Rattle.isa.specs.declared.instruction.Instruction.{Instruction}
 use Rattle.isa.specs.declared.instruction.Instruction.TheVariants as word
 use Rattle.bus.specs.declared.exchange.Request.TheVariants.{Init}
+use Rattle.bus.specs.Courses.{Act}
 use Rattle.bus.specs.Feeds.{AtMost}
 use Rattle.bus.proofs.Bounds.{at_done, at_bind, at_option, at_less, at_loads, at_stores, at_asks}
 use Rattle.arithmetic.specs.declared.outcome.Outcome.{Outcome}
@@ -19,41 +20,40 @@ use Rattle.operands.specs.declared.operand.Location.{Location}
 use Rattle.operands.specs.declared.operand.Location.TheVariants.{InRegister, InMemory}
 use Rattle.operands.proofs.Bounds.{at_leaving, at_locates, at_takes, at_gives}
 use Rattle.execution.specs.declared.change.Change.{Change}
+use Rattle.execution.specs.declared.change.Sum.{Sum}
+use Rattle.execution.specs.declared.change.Reach.{Reach}
+use Rattle.execution.specs.declared.change.Reach.TheVariants.{LowHalf, Whole}
 use Rattle.execution.specs.declared.ending.Ending.{Ending}
-use Rattle.execution.specs.Changes.{size, writes, concludes, alters, changes, fills, replaces, overwrites, reads, combines, doubles, adds, subtracts, loads_status}
+use Rattle.execution.specs.Changes.{size, written, puts, concludes, alters, changes, overwrites, reads, combines, doubles, sums, loads_status}
 use Rattle.execution.specs.Stack.{pushes, pops}
 use Rattle.execution.specs.Transfers.{jumps, links, calls_at, calls, pops_into, pops_status, restores}
 use Rattle.execution.specs.Executes.{resets, controls, executes}
 
-at_writes : (s : Size) (at : Location) (r : ℕ) (p : Processor) → AtMost 1 (writes s at r p)
-unfolding writes
-at_writes s at r p = at_bind 1 0 (at_gives s at r p) (λ z. at_option (at_done _ 0) (λ u. at_done _ 0) z.0)
+at_written : {course : Act (Option Unit × Processor)} → AtMost 1 course → AtMost 1 (written course)
+at_written h = at_bind 1 0 h (λ z. at_option (at_done _ 0) (λ u. at_done _ 0) z.0)
 
-at_concludes : (s : Size) (at : Location) (o : Outcome) (p : Processor) → AtMost 1 (concludes s at o p)
+at_puts : (reach : Reach) (s : Size) (at : Location) (v : ℕ) (p : Processor) → AtMost 1 (puts reach s at v p)
+unfolding puts
+at_puts Whole Byte (InRegister r) v p = at_done _ 1
+at_puts Whole Byte (InMemory at) v p = at_written (at_gives Byte (InMemory at) v p)
+at_puts Whole Word at v p = at_written (at_gives Word at v p)
+at_puts LowHalf s at v p = at_written (at_gives s at v p)
+
+at_concludes : (reach : Reach) (s : Size) (at : Location) (o : Outcome) (p : Processor) → AtMost 1 (concludes reach s at o p)
 unfolding concludes
-at_concludes s at o p = at_option (at_done _ 1) (λ r. at_writes s at r _) o.value
+at_concludes reach s at o p = at_option (at_done _ 1) (λ r. at_puts reach s at r _) o.value
 
 at_alters : (c : Change) (at : Location) (p : Processor) → AtMost 2 (alters c at p)
 unfolding alters
-at_alters c at p = at_bind 1 1 (at_takes (size c) at p) (λ v. at_option (at_done _ 1) (λ d. at_concludes _ at _ p) v)
+at_alters c at p = at_bind 1 1 (at_takes (size c) at p) (λ v. at_option (at_done _ 1) (λ d. at_concludes LowHalf _ at _ p) v)
 
 at_changes : (c : Change) (d : Operand) (p : Processor) → AtMost 4 (changes c d p)
 unfolding changes
 at_changes c d p = at_bind 2 2 (at_locates (size c) d p) (λ z. at_option (at_done _ 2) (λ at. at_alters c at z.1) z.0)
 
-at_fills : (s : Size) (at : Location) (v : ℕ) (p : Processor) → AtMost 1 (fills s at v p)
-unfolding fills
-at_fills Byte (InRegister r) v p = at_done _ 1
-at_fills Byte (InMemory at) v p = at_writes Byte (InMemory at) v p
-at_fills Word at v p = at_writes Word at v p
-
-at_replaces : (s : Size) (at : Location) (o : Outcome) (p : Processor) → AtMost 1 (replaces s at o p)
-unfolding replaces
-at_replaces s at o p = at_option (at_done _ 1) (λ r. at_fills s at r _) o.value
-
 at_overwrites : (s : Size) (o : Outcome) (d : Operand) (p : Processor) → AtMost 3 (overwrites s o d p)
 unfolding overwrites
-at_overwrites s o d p = at_bind 2 1 (at_locates s d p) (λ z. at_option (at_done _ 1) (λ at. at_replaces s at o z.1) z.0)
+at_overwrites s o d p = at_bind 2 1 (at_locates s d p) (λ z. at_option (at_done _ 1) (λ at. at_concludes Whole s at o z.1) z.0)
 
 at_reads : (s : Size) (x : Operand) (p : Processor) → AtMost 3 (reads s x p)
 unfolding reads
@@ -70,13 +70,9 @@ at_doubles : (o : DoubleOperation) (s : Size) (x d : Operand) (p : Processor) �
 unfolding doubles
 at_doubles o s x d p = at_bind 3 4 (at_reads s x p) (λ z. at_option (at_done _ 4) (λ v. at_combines o s v d z.1) z.0)
 
-at_adds : (x d : Operand) (p : Processor) → AtMost 7 (adds x d p)
-unfolding adds
-at_adds x d p = at_bind 3 4 (at_reads Word x p) (λ z. at_option (at_done _ 4) (λ v. at_changes _ d z.1) z.0)
-
-at_subtracts : (x d : Operand) (p : Processor) → AtMost 7 (subtracts x d p)
-unfolding subtracts
-at_subtracts x d p = at_bind 3 4 (at_reads Word x p) (λ z. at_option (at_done _ 4) (λ v. at_changes _ d z.1) z.0)
+at_sums : (o : Sum) (x d : Operand) (p : Processor) → AtMost 7 (sums o x d p)
+unfolding sums
+at_sums o x d p = at_bind 3 4 (at_reads Word x p) (λ z. at_option (at_done _ 4) (λ v. at_changes _ d z.1) z.0)
 
 at_loads_status : (x : Operand) (p : Processor) → AtMost 3 (loads_status x p)
 unfolding loads_status
@@ -148,8 +144,8 @@ at_executes (word.SignExtend d) p = at_less 4 7 (lit≤ tt) (at_changes _ d p)
 at_executes (word.ToStatus x) p = at_less 3 7 (lit≤ tt) (at_loads_status x p)
 at_executes (word.FromStatus d) p = at_less 3 7 (lit≤ tt) (at_overwrites _ _ d p)
 at_executes (word.Double s o x d) p = at_doubles o s x d p
-at_executes (word.Add x d) p = at_adds x d p
-at_executes (word.Subtract x d) p = at_subtracts x d p
+at_executes (word.Add x d) p = at_sums _ x d p
+at_executes (word.Subtract x d) p = at_sums _ x d p
 at_executes (word.ExclusiveOr r d) p = at_less 4 7 (lit≤ tt) (at_changes _ d p)
 at_executes (word.Loop r n) p = at_done _ 7
 at_executes (word.Emulate n) p = at_done _ 7

@@ -18,7 +18,10 @@ use Rattle.operands.specs.declared.state.Processor.{Processor}
 use Rattle.operands.specs.declared.operand.Location.TheVariants.{InRegister}
 use Rattle.operands.specs.Operands.{locates, takes, gives}
 use Rattle.execution.specs.declared.change.Change.{Change}
-use Rattle.execution.specs.Changes.{size, writes, concludes, alters, changes, fills, replaces, overwrites, reads, combines, doubles, adds, subtracts, loads_status}
+use Rattle.execution.specs.declared.change.Sum.{Sum}
+use Rattle.execution.specs.declared.change.Reach.{Reach}
+use Rattle.execution.specs.declared.change.Reach.TheVariants.{LowHalf, Whole}
+use Rattle.execution.specs.Changes.{size, written, puts, concludes, alters, changes, overwrites, reads, combines, doubles, sums, loads_status}
 use Rattle.execution.specs.Executes.{executes}
 use Rattle.execution.specs.Laws.{direct, in_registers, StaysInside}
 
@@ -48,26 +51,22 @@ unfolding gives
 inside_gives Word r v p = inside_done _
 inside_gives Byte r v p = inside_done _
 
-inside_writes : (s : Size) (r : Register) (v : ℕ) (p : Processor) → StaysInside (writes s (InRegister r) v p)
-unfolding writes
-inside_writes s r v p = inside_bind (inside_gives s r v p) (λ z. inside_option (inside_done _) (λ u. inside_done _) z.0)
+inside_written : {course : Act (Option Unit × Processor)} → StaysInside course → StaysInside (written course)
+inside_written h = inside_bind h (λ z. inside_option (inside_done _) (λ u. inside_done _) z.0)
 
-inside_concludes : (s : Size) (r : Register) (o : Outcome) (p : Processor) → StaysInside (concludes s (InRegister r) o p)
+inside_puts : (reach : Reach) (s : Size) (r : Register) (v : ℕ) (p : Processor) → StaysInside (puts reach s (InRegister r) v p)
+unfolding puts
+inside_puts Whole Byte r v p = inside_done _
+inside_puts Whole Word r v p = inside_written (inside_gives Word r v p)
+inside_puts LowHalf s r v p = inside_written (inside_gives s r v p)
+
+inside_concludes : (reach : Reach) (s : Size) (r : Register) (o : Outcome) (p : Processor) → StaysInside (concludes reach s (InRegister r) o p)
 unfolding concludes
-inside_concludes s r o p = inside_option (inside_done _) (λ v. inside_writes s r v _) o.value
+inside_concludes reach s r o p = inside_option (inside_done _) (λ v. inside_puts reach s r v _) o.value
 
 inside_alters : (c : Change) (r : Register) (p : Processor) → StaysInside (alters c (InRegister r) p)
 unfolding alters
-inside_alters c r p = inside_bind (inside_takes (size c) r p) (λ v. inside_option (inside_done _) (λ d. inside_concludes _ r _ p) v)
-
-inside_fills : (s : Size) (r : Register) (v : ℕ) (p : Processor) → StaysInside (fills s (InRegister r) v p)
-unfolding fills
-inside_fills Byte r v p = inside_done _
-inside_fills Word r v p = inside_writes Word r v p
-
-inside_replaces : (s : Size) (r : Register) (o : Outcome) (p : Processor) → StaysInside (replaces s (InRegister r) o p)
-unfolding replaces
-inside_replaces s r o p = inside_option (inside_done _) (λ v. inside_fills s r v _) o.value
+inside_alters c r p = inside_bind (inside_takes (size c) r p) (λ v. inside_option (inside_done _) (λ d. inside_concludes LowHalf _ r _ p) v)
 
 -- an operand of mode 0 is a register
 is_direct : (d : Operand) → direct d ≡ true → (r : Register) × (d ≡ Direct r)
@@ -89,7 +88,7 @@ inside_changes c d h p = let e = is_direct d h in subst (λ d. StaysInside (chan
 
 register_overwrites : (s : Size) (o : Outcome) (r : Register) (p : Processor) → StaysInside (overwrites s o (Direct r) p)
 unfolding overwrites locates
-register_overwrites s o r p = record { ends = λ m v t. (inside_replaces s r o p).ends m v t }
+register_overwrites s o r p = record { ends = λ m v t. (inside_concludes Whole s r o p).ends m v t }
 
 inside_overwrites : (s : Size) (o : Outcome) (d : Operand) → direct d ≡ true → (p : Processor) → StaysInside (overwrites s o d p)
 inside_overwrites s o d h p = let e = is_direct d h in subst (λ d. StaysInside (overwrites s o d p)) (sym e.1) (register_overwrites s o e.0 p)
@@ -112,13 +111,9 @@ inside_doubles : (o : DoubleOperation) (s : Size) (x d : Operand) → direct x �
 unfolding doubles
 inside_doubles o s x d h k p = inside_bind (inside_reads s x h p) (λ z. inside_option (inside_done _) (λ v. inside_combines o s v d k z.1) z.0)
 
-inside_adds : (x d : Operand) → direct x ≡ true → direct d ≡ true → (p : Processor) → StaysInside (adds x d p)
-unfolding adds
-inside_adds x d h k p = inside_bind (inside_reads Word x h p) (λ z. inside_option (inside_done _) (λ v. inside_changes _ d k z.1) z.0)
-
-inside_subtracts : (x d : Operand) → direct x ≡ true → direct d ≡ true → (p : Processor) → StaysInside (subtracts x d p)
-unfolding subtracts
-inside_subtracts x d h k p = inside_bind (inside_reads Word x h p) (λ z. inside_option (inside_done _) (λ v. inside_changes _ d k z.1) z.0)
+inside_sums : (o : Sum) (x d : Operand) → direct x ≡ true → direct d ≡ true → (p : Processor) → StaysInside (sums o x d p)
+unfolding sums
+inside_sums o x d h k p = inside_bind (inside_reads Word x h p) (λ z. inside_option (inside_done _) (λ v. inside_changes _ d k z.1) z.0)
 
 inside_loads_status : (x : Operand) → direct x ≡ true → (p : Processor) → StaysInside (loads_status x p)
 unfolding loads_status
@@ -139,8 +134,8 @@ inside_executes (word.SignExtend d) h p = inside_changes _ d h p
 inside_executes (word.ToStatus x) h p = inside_loads_status x h p
 inside_executes (word.FromStatus d) h p = inside_overwrites Byte _ d h p
 inside_executes (word.Double s o x d) h p = let k = and_parts (direct x) (direct d) h in inside_doubles o s x d k.0 k.1 p
-inside_executes (word.Add x d) h p = let k = and_parts (direct x) (direct d) h in inside_adds x d k.0 k.1 p
-inside_executes (word.Subtract x d) h p = let k = and_parts (direct x) (direct d) h in inside_subtracts x d k.0 k.1 p
+inside_executes (word.Add x d) h p = let k = and_parts (direct x) (direct d) h in inside_sums _ x d k.0 k.1 p
+inside_executes (word.Subtract x d) h p = let k = and_parts (direct x) (direct d) h in inside_sums _ x d k.0 k.1 p
 inside_executes (word.ExclusiveOr r d) h p = inside_changes _ d h p
 inside_executes (word.Loop r n) h p = inside_done _
 inside_executes (word.Emulate n) h p = inside_done _

@@ -18,7 +18,11 @@ use Rattle.operands.specs.declared.operand.Location.TheVariants.{InRegister, InM
 use Rattle.operands.specs.State.{with_register, with_psw, leaving}
 use Rattle.operands.specs.Operands.{locates, takes, gives}
 use Rattle.execution.specs.declared.change.Change.{Change}
-use Rattle.execution.specs.declared.change.Change.TheVariants.{Single, Double, Add, Subtract, ExclusiveOr, SwapBytes, SignExtend}
+use Rattle.execution.specs.declared.change.Change.TheVariants.{Single, Double, Sum as SumOf, ExclusiveOr, SwapBytes, SignExtend}
+use Rattle.execution.specs.declared.change.Sum.{Sum}
+use Rattle.execution.specs.declared.change.Sum.TheVariants.{Add, Subtract}
+use Rattle.execution.specs.declared.change.Reach.{Reach}
+use Rattle.execution.specs.declared.change.Reach.TheVariants.{LowHalf, Whole}
 use Rattle.execution.specs.declared.ending.Ending.{Ending}
 use Rattle.execution.specs.declared.ending.Ending.TheVariants.{Completed, TimedOut}
 
@@ -26,8 +30,7 @@ use Rattle.execution.specs.declared.ending.Ending.TheVariants.{Completed, TimedO
 abbrev pub size : Change → Size
 size (Single o s) = s
 size (Double o s x) = s
-size (Add x) = Word
-size (Subtract x) = Word
+size (SumOf o x) = Word
 size (ExclusiveOr x) = Word
 size SwapBytes = Word
 size SignExtend = Word
@@ -36,34 +39,41 @@ size SignExtend = Word
 unfoldable pub outcome : Change → ℕ → ℕ → Outcome
 outcome (Single o s) d psw = single_outcome o s d (flags_of psw)
 outcome (Double o s x) d psw = double_outcome o s x d (flags_of psw)
-outcome (Add x) d psw = add_outcome x d
-outcome (Subtract x) d psw = subtract_outcome x d
+outcome (SumOf Add x) d psw = add_outcome x d
+outcome (SumOf Subtract x) d psw = subtract_outcome x d
 outcome (ExclusiveOr x) d psw = exclusive_or_outcome x d (flags_of psw)
 outcome SwapBytes d psw = swap_outcome d
 outcome SignExtend d psw = extend_outcome (flags_of psw)
 
--- The result is written.
-unfoldable pub writes : Size → Location → ℕ → Processor → Act (Ending × Processor)
-writes s at r p = bind (gives s at r p) (λ z. elim z.0 [
+-- What was written completes the instruction, unless it timed out.
+abbrev pub written : Act (Option Unit × Processor) → Act (Ending × Processor)
+written course = bind course (λ z. elim z.0 [
   | None ↦ done (TimedOut, z.1)
   | Some u ↦ done (Completed, z.1)
 ])
+
+-- The result is written; a byte reaches a register's low half, or by its sign the whole of it.
+unfoldable pub puts : Reach → Size → Location → ℕ → Processor → Act (Ending × Processor)
+puts Whole Byte (InRegister r) v p = done (Completed, with_register p r (spread v))
+puts Whole Byte (InMemory at) v p = written (gives Byte (InMemory at) v p)
+puts Whole Word at v p = written (gives Word at v p)
+puts LowHalf s at v p = written (gives s at v p)
 
 -- The flags are set, before the result, where there is one, is written.
 abbrev pub flagged : Outcome → Processor → Processor
 flagged o p = with_psw p (with_flags p.psw o.flags)
 
-unfoldable pub concludes : Size → Location → Outcome → Processor → Act (Ending × Processor)
-concludes s at o p = elim o.value [
+unfoldable pub concludes : Reach → Size → Location → Outcome → Processor → Act (Ending × Processor)
+concludes reach s at o p = elim o.value [
   | None ↦ done (Completed, flagged o p)
-  | Some r ↦ writes s at r (flagged o p)
+  | Some r ↦ puts reach s at r (flagged o p)
 ]
 
 -- A destination that is found is read, and then written where the operation has a result: CMP, BIT and TST have none.
 unfoldable pub alters : Change → Location → Processor → Act (Ending × Processor)
 alters c at p = bind (takes (size c) at p) (λ v. elim v [
   | None ↦ done (TimedOut, p)
-  | Some d ↦ concludes (size c) at (outcome c d p.psw) p
+  | Some d ↦ concludes LowHalf (size c) at (outcome c d p.psw) p
 ])
 
 unfoldable pub changes : Change → Operand → Processor → Act (Ending × Processor)
@@ -73,21 +83,10 @@ changes c d p = bind (locates (size c) d p) (λ z. elim z.0 [
 ])
 
 -- MOV and MFPS only write; as bytes they spread the sign over a whole register.
-unfoldable pub fills : Size → Location → ℕ → Processor → Act (Ending × Processor)
-fills Byte (InRegister r) v p = done (Completed, with_register p r (spread v))
-fills Byte (InMemory at) v p = writes Byte (InMemory at) v p
-fills Word at v p = writes Word at v p
-
-unfoldable pub replaces : Size → Location → Outcome → Processor → Act (Ending × Processor)
-replaces s at o p = elim o.value [
-  | None ↦ done (Completed, flagged o p)
-  | Some r ↦ fills s at r (flagged o p)
-]
-
 unfoldable pub overwrites : Size → Outcome → Operand → Processor → Act (Ending × Processor)
 overwrites s o d p = bind (locates s d p) (λ z. elim z.0 [
   | None ↦ done (TimedOut, z.1)
-  | Some at ↦ replaces s at o z.1
+  | Some at ↦ concludes Whole s at o z.1
 ])
 
 -- A source is found and read.
@@ -112,16 +111,10 @@ doubles o s x d p = bind (reads s x p) (λ z. elim z.0 [
   | Some v ↦ combines o s v d z.1
 ])
 
-unfoldable pub adds : Operand → Operand → Processor → Act (Ending × Processor)
-adds x d p = bind (reads Word x p) (λ z. elim z.0 [
+unfoldable pub sums : Sum → Operand → Operand → Processor → Act (Ending × Processor)
+sums o x d p = bind (reads Word x p) (λ z. elim z.0 [
   | None ↦ done (TimedOut, z.1)
-  | Some v ↦ changes (Add v) d z.1
-])
-
-unfoldable pub subtracts : Operand → Operand → Processor → Act (Ending × Processor)
-subtracts x d p = bind (reads Word x p) (λ z. elim z.0 [
-  | None ↦ done (TimedOut, z.1)
-  | Some v ↦ changes (Subtract v) d z.1
+  | Some v ↦ changes (SumOf o v) d z.1
 ])
 
 -- MTPS only reads: the byte replaces the status word's low byte.

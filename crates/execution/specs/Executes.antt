@@ -14,10 +14,11 @@ use Rattle.operands.specs.declared.state.Life.TheVariants.{Halted}
 use Rattle.operands.specs.declared.state.Processor.{Processor}
 use Rattle.operands.specs.State.{register, with_psw, with_life, with_waiting, with_requests}
 use Rattle.execution.specs.declared.change.Change.TheVariants.{Single, ExclusiveOr, SwapBytes, SignExtend}
+use Rattle.execution.specs.declared.change.Sum.TheVariants.{Add, Subtract}
 use Rattle.execution.specs.declared.ending.Ending.{Ending}
 use Rattle.execution.specs.declared.ending.Ending.TheVariants.{Completed, ReturnedFromTrace, Halted as Halts, Trapped}
 use Rattle.execution.specs.declared.ending.Trap.TheVariants as traps
-use Rattle.execution.specs.Changes.{changes, overwrites, doubles, adds, subtracts, loads_status}
+use Rattle.execution.specs.Changes.{changes, overwrites, doubles, sums, loads_status}
 use Rattle.execution.specs.Transfers.{branched, looped, jumps, calls, leaves, marks, restores}
 
 -- RESET asks INIT and drops the requests of IRQ2 and IRQ3.
@@ -55,8 +56,8 @@ executes (word.SignExtend d) p = changes SignExtend d p
 executes (word.ToStatus x) p = loads_status x p
 executes (word.FromStatus d) p = overwrites Byte (from_status_outcome p.psw) d p
 executes (word.Double s o x d) p = doubles o s x d p
-executes (word.Add x d) p = adds x d p
-executes (word.Subtract x d) p = subtracts x d p
+executes (word.Add x d) p = sums Add x d p
+executes (word.Subtract x d) p = sums Subtract x d p
 executes (word.ExclusiveOr r d) p = changes (ExclusiveOr (register p r)) d p
 executes (word.Loop r n) p = done (Completed, looped r n p)
 executes (word.Emulate n) p = done (Trapped traps.Emt, p)

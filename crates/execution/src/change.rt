@@ -1,22 +1,28 @@
 // Operations on operands: what is made of a destination, and in which order it is read, flagged and written.
 ghost use Rattle.std.specs.Prelude.{◌≡◌};
-ghost use Rattle.bus.specs.Courses.{Played};
 ghost use Rattle.operands.specs.State.{beside};
-ghost use Rattle.execution.specs.Changes.{size, outcome, writes, flagged, concludes, alters, changes, fills, replaces, overwrites, reads, combines, doubles, adds, subtracts, loads_status};
+ghost use Rattle.operands.specs.Machines.{Ran};
+ghost use Rattle.execution.specs.Changes.{size, outcome, puts, flagged, concludes, alters, changes, overwrites, reads, combines, doubles, sums, loads_status};
 
 use crate::ending::Ending;
 use arithmetic::{Flags, Outcome, sign_spread};
 use bus::{Board, Cabinet, Gone};
 use isa::{DoubleOperation, Operand, SingleOperation, Size};
-use operands::{Location, Processor, give, locate, take};
+use operands::{Location, Machine, Processor};
+
+// ADD and SUB, which work on words alone.
+#[derive(Clone, Copy)]
+pub(crate) enum Sum {
+    Add,
+    Subtract,
+}
 
 // What an instruction makes of its destination, with the source where it has one.
 #[derive(Clone, Copy)]
 pub(crate) enum Change {
     Single(SingleOperation, Size),
     Double(DoubleOperation, Size, u16),
-    Add(u16),
-    Subtract(u16),
+    Sum(Sum, u16),
     ExclusiveOr(u16),
     SwapBytes,
     SignExtend,
@@ -35,6 +41,7 @@ impl Change {
     }
 
     // Result and flags from the destination's old value and the status word.
+    #[tactic(auto, unfolding(crate::specs::Changes::outcome))]
     fn outcome(self, old: u16, psw: u16) -> Outcome
         ensures { result ≡ outcome self old psw }
     {
@@ -44,13 +51,21 @@ impl Change {
             Change::Double(operation, size, source) => arithmetic::double(
                 operation, size, source, old, flags,
             ),
-            Change::Add(source) => arithmetic::add(source, old),
-            Change::Subtract(source) => arithmetic::subtract(source, old),
+            Change::Sum(Sum::Add, source) => arithmetic::add(source, old),
+            Change::Sum(Sum::Subtract, source) => arithmetic::subtract(source, old),
             Change::ExclusiveOr(source) => arithmetic::exclusive_or(source, old, flags),
             Change::SwapBytes => arithmetic::swap_bytes(old),
             Change::SignExtend => arithmetic::sign_extend(flags),
         }
     }
+}
+
+// What a byte that is written to a register changes there.
+#[derive(Clone, Copy)]
+pub(crate) enum Reach {
+    LowHalf,
+    // The byte's sign fills the high half.
+    Whole,
 }
 
 fn set_flags(p: &mut Processor, outcome: Outcome)
@@ -59,171 +74,120 @@ fn set_flags(p: &mut Processor, outcome: Outcome)
     p.psw = outcome.flags.put_into(p.psw);
 }
 
-fn write<B: Board, C: Cabinet>(
-    p: &mut Processor,
-    board: &mut B,
-    side: &mut C,
+#[tactic(auto, unfolding(crate::specs::Changes::puts))]
+fn put<B: Board, C: Cabinet>(
+    machine: &mut Machine<'_, B, C>,
+    reach: Reach,
     size: Size,
     at: Location,
-    res: u16,
+    value: u16,
 ) -> Result<Ending, Gone>
-    ensures { Played C.Cabinet.meaning C.Cabinet.becomes (writes size at res p.old) (B.Board.meaning board.old) side.old (beside result p.new) (B.Board.meaning board.new) side.new }
+    ensures { Ran B.Board C.Cabinet (puts reach size at value) machine.old (beside result machine.new.processor.now) machine.new }
 {
-    let Some(()) = give(p, board, side, size, at, res)? else {
+    if let (Reach::Whole, Size::Byte, Location::InRegister(r)) = (reach, size, at) {
+        machine.processor.set_register(r, sign_spread(value));
+        return Ok(Ending::Completed);
+    }
+    let Some(()) = machine.give(size, at, value)? else {
         return Ok(Ending::TimedOut);
     };
     Ok(Ending::Completed)
 }
 
+#[tactic(auto, unfolding(crate::specs::Changes::concludes))]
 fn conclude<B: Board, C: Cabinet>(
-    p: &mut Processor,
-    board: &mut B,
-    side: &mut C,
+    machine: &mut Machine<'_, B, C>,
+    reach: Reach,
     size: Size,
     at: Location,
     outcome: Outcome,
 ) -> Result<Ending, Gone>
-    ensures { Played C.Cabinet.meaning C.Cabinet.becomes (concludes size at outcome p.old) (B.Board.meaning board.old) side.old (beside result p.new) (B.Board.meaning board.new) side.new }
+    ensures { Ran B.Board C.Cabinet (concludes reach size at outcome) machine.old (beside result machine.new.processor.now) machine.new }
 {
-    set_flags(p, outcome);
+    set_flags(machine.processor, outcome);
     match outcome.value {
         None => Ok(Ending::Completed),
-        Some(result) => write(p, board, side, size, at, result),
+        Some(result) => put(machine, reach, size, at, result),
     }
 }
 
+#[tactic(auto, unfolding(crate::specs::Changes::alters))]
 fn alter<B: Board, C: Cabinet>(
-    p: &mut Processor,
-    board: &mut B,
-    side: &mut C,
+    machine: &mut Machine<'_, B, C>,
     change: Change,
     at: Location,
 ) -> Result<Ending, Gone>
-    ensures { Played C.Cabinet.meaning C.Cabinet.becomes (alters change at p.old) (B.Board.meaning board.old) side.old (beside result p.new) (B.Board.meaning board.new) side.new }
+    ensures { Ran B.Board C.Cabinet (alters change at) machine.old (beside result machine.new.processor.now) machine.new }
 {
-    let Some(old) = take(p, board, side, change.size(), at)? else {
+    let Some(old) = machine.take(change.size(), at)? else {
         return Ok(Ending::TimedOut);
     };
-    conclude(
-        p,
-        board,
-        side,
-        change.size(),
-        at,
-        change.outcome(old, p.psw),
-    )
+    let outcome = change.outcome(old, machine.processor.psw);
+    conclude(machine, Reach::LowHalf, change.size(), at, outcome)
 }
 
 // Reads the destination, sets the flags, and writes the result where there is one.
+#[tactic(auto, unfolding(crate::specs::Changes::changes))]
 pub(crate) fn apply<B: Board, C: Cabinet>(
-    p: &mut Processor,
-    board: &mut B,
-    side: &mut C,
+    machine: &mut Machine<'_, B, C>,
     change: Change,
     destination: Operand,
 ) -> Result<Ending, Gone>
-    ensures { Played C.Cabinet.meaning C.Cabinet.becomes (changes change destination p.old) (B.Board.meaning board.old) side.old (beside result p.new) (B.Board.meaning board.new) side.new }
+    ensures { Ran B.Board C.Cabinet (changes change destination) machine.old (beside result machine.new.processor.now) machine.new }
 {
-    let Some(at) = locate(p, board, side, change.size(), destination)? else {
+    let Some(at) = machine.locate(change.size(), destination)? else {
         return Ok(Ending::TimedOut);
     };
-    alter(p, board, side, change, at)
-}
-
-fn fill<B: Board, C: Cabinet>(
-    p: &mut Processor,
-    board: &mut B,
-    side: &mut C,
-    size: Size,
-    at: Location,
-    value: u16,
-) -> Result<Ending, Gone>
-    ensures { Played C.Cabinet.meaning C.Cabinet.becomes (fills size at value p.old) (B.Board.meaning board.old) side.old (beside result p.new) (B.Board.meaning board.new) side.new }
-{
-    match (size, at) {
-        (Size::Byte, Location::InRegister(r)) => {
-            p.set_register(r, sign_spread(value));
-            Ok(Ending::Completed)
-        }
-        _ => write(p, board, side, size, at, value),
-    }
-}
-
-fn replace<B: Board, C: Cabinet>(
-    p: &mut Processor,
-    board: &mut B,
-    side: &mut C,
-    size: Size,
-    at: Location,
-    outcome: Outcome,
-) -> Result<Ending, Gone>
-    ensures { Played C.Cabinet.meaning C.Cabinet.becomes (replaces size at outcome p.old) (B.Board.meaning board.old) side.old (beside result p.new) (B.Board.meaning board.new) side.new }
-{
-    set_flags(p, outcome);
-    match outcome.value {
-        None => Ok(Ending::Completed),
-        Some(result) => fill(p, board, side, size, at, result),
-    }
+    alter(machine, change, at)
 }
 
 // Sets the flags and writes the result, with no look at what the destination held.
+#[tactic(auto, unfolding(crate::specs::Changes::overwrites))]
 pub(crate) fn overwrite<B: Board, C: Cabinet>(
-    p: &mut Processor,
-    board: &mut B,
-    side: &mut C,
+    machine: &mut Machine<'_, B, C>,
     size: Size,
     outcome: Outcome,
     destination: Operand,
 ) -> Result<Ending, Gone>
-    ensures { Played C.Cabinet.meaning C.Cabinet.becomes (overwrites size outcome destination p.old) (B.Board.meaning board.old) side.old (beside result p.new) (B.Board.meaning board.new) side.new }
+    ensures { Ran B.Board C.Cabinet (overwrites size outcome destination) machine.old (beside result machine.new.processor.now) machine.new }
 {
-    let Some(at) = locate(p, board, side, size, destination)? else {
+    let Some(at) = machine.locate(size, destination)? else {
         return Ok(Ending::TimedOut);
     };
-    replace(p, board, side, size, at, outcome)
+    conclude(machine, Reach::Whole, size, at, outcome)
 }
 
+#[tactic(auto, unfolding(crate::specs::Changes::reads))]
 fn read<B: Board, C: Cabinet>(
-    p: &mut Processor,
-    board: &mut B,
-    side: &mut C,
+    machine: &mut Machine<'_, B, C>,
     size: Size,
     source: Operand,
 ) -> Result<Option<u16>, Gone>
-    ensures { Played C.Cabinet.meaning C.Cabinet.becomes (reads size source p.old) (B.Board.meaning board.old) side.old (beside result p.new) (B.Board.meaning board.new) side.new }
+    ensures { Ran B.Board C.Cabinet (reads size source) machine.old (beside result machine.new.processor.now) machine.new }
 {
-    let Some(at) = locate(p, board, side, size, source)? else {
+    let Some(at) = machine.locate(size, source)? else {
         return Ok(None);
     };
-    take(p, board, side, size, at)
+    machine.take(size, at)
 }
 
 fn combine<B: Board, C: Cabinet>(
-    p: &mut Processor,
-    board: &mut B,
-    side: &mut C,
+    machine: &mut Machine<'_, B, C>,
     operation: DoubleOperation,
     size: Size,
     source: u16,
     destination: Operand,
 ) -> Result<Ending, Gone>
-    ensures { Played C.Cabinet.meaning C.Cabinet.becomes (combines operation size source destination p.old) (B.Board.meaning board.old) side.old (beside result p.new) (B.Board.meaning board.new) side.new }
+    ensures { Ran B.Board C.Cabinet (combines operation size source destination) machine.old (beside result machine.new.processor.now) machine.new }
 {
     match operation {
         DoubleOperation::Mov => {
-            let outcome = arithmetic::double(
-                DoubleOperation::Mov,
-                size,
-                source,
-                0,
-                Flags::of_status(p.psw),
-            );
-            overwrite(p, board, side, size, outcome, destination)
+            let flags = Flags::of_status(machine.processor.psw);
+            let outcome = arithmetic::double(DoubleOperation::Mov, size, source, 0, flags);
+            overwrite(machine, size, outcome, destination)
         }
         _ => apply(
-            p,
-            board,
-            side,
+            machine,
             Change::Double(operation, size, source),
             destination,
         ),
@@ -231,65 +195,49 @@ fn combine<B: Board, C: Cabinet>(
 }
 
 // MOV, CMP, BIT, BIC and BIS.
+#[tactic(auto, unfolding(crate::specs::Changes::doubles))]
 pub(crate) fn double<B: Board, C: Cabinet>(
-    p: &mut Processor,
-    board: &mut B,
-    side: &mut C,
+    machine: &mut Machine<'_, B, C>,
     operation: DoubleOperation,
     size: Size,
     source: Operand,
     destination: Operand,
 ) -> Result<Ending, Gone>
-    ensures { Played C.Cabinet.meaning C.Cabinet.becomes (doubles operation size source destination p.old) (B.Board.meaning board.old) side.old (beside result p.new) (B.Board.meaning board.new) side.new }
+    ensures { Ran B.Board C.Cabinet (doubles operation size source destination) machine.old (beside result machine.new.processor.now) machine.new }
 {
-    let Some(value) = read(p, board, side, size, source)? else {
+    let Some(value) = read(machine, size, source)? else {
         return Ok(Ending::TimedOut);
     };
-    combine(p, board, side, operation, size, value, destination)
+    combine(machine, operation, size, value, destination)
 }
 
-pub(crate) fn add<B: Board, C: Cabinet>(
-    p: &mut Processor,
-    board: &mut B,
-    side: &mut C,
+// ADD and SUB.
+#[tactic(auto, unfolding(crate::specs::Changes::sums))]
+pub(crate) fn add_or_subtract<B: Board, C: Cabinet>(
+    machine: &mut Machine<'_, B, C>,
+    operation: Sum,
     source: Operand,
     destination: Operand,
 ) -> Result<Ending, Gone>
-    ensures { Played C.Cabinet.meaning C.Cabinet.becomes (adds source destination p.old) (B.Board.meaning board.old) side.old (beside result p.new) (B.Board.meaning board.new) side.new }
+    ensures { Ran B.Board C.Cabinet (sums operation source destination) machine.old (beside result machine.new.processor.now) machine.new }
 {
-    let Some(value) = read(p, board, side, Size::Word, source)? else {
+    let Some(value) = read(machine, Size::Word, source)? else {
         return Ok(Ending::TimedOut);
     };
-    apply(p, board, side, Change::Add(value), destination)
-}
-
-pub(crate) fn subtract<B: Board, C: Cabinet>(
-    p: &mut Processor,
-    board: &mut B,
-    side: &mut C,
-    source: Operand,
-    destination: Operand,
-) -> Result<Ending, Gone>
-    ensures { Played C.Cabinet.meaning C.Cabinet.becomes (subtracts source destination p.old) (B.Board.meaning board.old) side.old (beside result p.new) (B.Board.meaning board.new) side.new }
-{
-    let Some(value) = read(p, board, side, Size::Word, source)? else {
-        return Ok(Ending::TimedOut);
-    };
-    apply(p, board, side, Change::Subtract(value), destination)
+    apply(machine, Change::Sum(operation, value), destination)
 }
 
 // MTPS.
+#[tactic(auto, unfolding(crate::specs::Changes::loads_status))]
 pub(crate) fn to_status<B: Board, C: Cabinet>(
-    p: &mut Processor,
-    board: &mut B,
-    side: &mut C,
+    machine: &mut Machine<'_, B, C>,
     source: Operand,
 ) -> Result<Ending, Gone>
-    ensures { Played C.Cabinet.meaning C.Cabinet.becomes (loads_status source p.old) (B.Board.meaning board.old) side.old (beside result p.new) (B.Board.meaning board.new) side.new }
+    ensures { Ran B.Board C.Cabinet (loads_status source) machine.old (beside result machine.new.processor.now) machine.new }
 {
-    let Some(byte) = read(p, board, side, Size::Byte, source)? else {
+    let Some(byte) = read(machine, Size::Byte, source)? else {
         return Ok(Ending::TimedOut);
     };
-    p.psw = arithmetic::to_status(p.psw, byte);
+    machine.processor.psw = arithmetic::to_status(machine.processor.psw, byte);
     Ok(Ending::Completed)
 }

@@ -1,8 +1,7 @@
 // The instructions with no operand: control words and flag words.
 ghost use Rattle.std.specs.Prelude.{◌≡◌};
-ghost use Rattle.bus.specs.Courses.{Played};
-ghost use Rattle.bus.specs.Memory.{Memory};
 ghost use Rattle.operands.specs.State.{beside};
+ghost use Rattle.operands.specs.Machines.{Ran};
 ghost use Rattle.execution.specs.Executes.{resets, controls, reflagged};
 
 use crate::ending::{Ending, Trap};
@@ -10,40 +9,40 @@ use crate::transfer::restore;
 use arithmetic::{Flags, change_flags};
 use bus::{Board, Cabinet, Gone, Request};
 use isa::{Control, FlagChange, FlagMask};
-use operands::{Life, Processor};
+use operands::{Life, Machine, Processor};
 
 // RESET.
-fn reset<C: Cabinet>(p: &mut Processor, side: &mut C) -> Result<Ending, Gone>
-    ensures { (m : Memory) → Played C.Cabinet.meaning C.Cabinet.becomes (resets p.old) m side.old (beside result p.new) m side.new }
+#[tactic(auto, unfolding(crate::specs::Executes::resets))]
+fn reset<B: Board, C: Cabinet>(machine: &mut Machine<'_, B, C>) -> Result<Ending, Gone>
+    ensures { Ran B.Board C.Cabinet resets machine.old (beside result machine.new.processor.now) machine.new }
 {
-    let _answered = side.ask(Request::Init)?;
-    p.requests.irq2 = false;
-    p.requests.irq3 = false;
+    let _answered = machine.side.ask(Request::Init)?;
+    machine.processor.requests.irq2 = false;
+    machine.processor.requests.irq3 = false;
     Ok(Ending::Completed)
 }
 
+#[tactic(auto, unfolding(crate::specs::Executes::controls))]
 pub(crate) fn control<B: Board, C: Cabinet>(
-    p: &mut Processor,
-    board: &mut B,
-    side: &mut C,
+    machine: &mut Machine<'_, B, C>,
     word: Control,
 ) -> Result<Ending, Gone>
-    ensures { Played C.Cabinet.meaning C.Cabinet.becomes (controls word p.old) (B.Board.meaning board.old) side.old (beside result p.new) (B.Board.meaning board.new) side.new }
+    ensures { Ran B.Board C.Cabinet (controls word) machine.old (beside result machine.new.processor.now) machine.new }
 {
     match word {
         Control::Halt => {
-            p.life = Life::Halted;
+            machine.processor.life = Life::Halted;
             Ok(Ending::Halted)
         }
         Control::Wait => {
-            p.waiting = true;
+            machine.processor.waiting = true;
             Ok(Ending::Completed)
         }
-        Control::Rti => restore(p, board, side, Ending::Completed),
+        Control::Rti => restore(machine, Ending::Completed),
         Control::Bpt => Ok(Ending::Trapped(Trap::Bpt)),
         Control::Iot => Ok(Ending::Trapped(Trap::Iot)),
-        Control::Reset => reset(p, side),
-        Control::Rtt => restore(p, board, side, Ending::ReturnedFromTrace),
+        Control::Reset => reset(machine),
+        Control::Rtt => restore(machine, Ending::ReturnedFromTrace),
     }
 }
 

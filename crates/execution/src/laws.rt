@@ -2,8 +2,7 @@
 ghost use Rattle.execution.specs.Laws.{RegisterWords};
 
 // An instruction that works on registers alone changes no memory and asks nothing of the cabinet side.
-pub fn register_words_stay_inside() -> u8
+#[tactic(auto, using(crate::proofs::Inside::inside_executes))]
+pub fn register_words_stay_inside()
     ensures { RegisterWords }
-{
-    0
-}
+{}

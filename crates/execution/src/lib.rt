@@ -10,6 +10,6 @@ mod stack;
 mod transfer;
 
 pub use ending::{Ending, Trap};
-pub use instruction::execute;
+pub use instruction::{execute, execute_on};
 pub use laws::register_words_stay_inside;
-pub use stack::push;
+pub use stack::{push, push_on};

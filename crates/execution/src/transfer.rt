@@ -1,15 +1,15 @@
 // Instructions that set PC: branches, jumps, calls and returns.
 ghost use Rattle.std.specs.Prelude.{◌≡◌};
-ghost use Rattle.bus.specs.Courses.{Played};
 ghost use Rattle.operands.specs.State.{beside};
-ghost use Rattle.execution.specs.Transfers.{branched, looped, jumps, links, calls_at, calls, pops_into, leaves, marks, pops_status, restores};
+ghost use Rattle.operands.specs.Machines.{Ran};
+ghost use Rattle.execution.specs.Transfers.{branched, looped, jumps, links, calls, pops_into, leaves, marks, restores};
 
 use crate::ending::{Ending, Trap};
-use crate::stack::{pop, push, with_lowered_stack};
+use crate::stack::{pop, push_on, with_lowered_stack};
 use arithmetic::{Flags, branch_distance, taken};
 use bus::{Board, Cabinet, Gone};
 use isa::{Condition, Operand, Register, Size};
-use operands::{Location, Processor, locate};
+use operands::{Location, Machine, Processor};
 
 pub(crate) fn branch(p: &mut Processor, condition: Condition, offset: i8)
     ensures { p.new ≡ branched condition offset p.old }
@@ -37,147 +37,118 @@ pub(crate) fn count_down(p: &mut Processor, r: Register, back: u8)
 }
 
 // JMP.
+#[tactic(auto, unfolding(crate::specs::Transfers::jumps))]
 pub(crate) fn jump<B: Board, C: Cabinet>(
-    p: &mut Processor,
-    board: &mut B,
-    side: &mut C,
+    machine: &mut Machine<'_, B, C>,
     destination: Operand,
 ) -> Result<Ending, Gone>
-    ensures { Played C.Cabinet.meaning C.Cabinet.becomes (jumps destination p.old) (B.Board.meaning board.old) side.old (beside result p.new) (B.Board.meaning board.new) side.new }
+    ensures { Ran B.Board C.Cabinet (jumps destination) machine.old (beside result machine.new.processor.now) machine.new }
 {
-    let Some(at) = locate(p, board, side, Size::Word, destination)? else {
+    let Some(at) = machine.locate(Size::Word, destination)? else {
         return Ok(Ending::TimedOut);
     };
     match at {
         Location::InRegister(_) => Ok(Ending::Trapped(Trap::JumpToRegister)),
-        Location::InMemory(at) => {
-            p.set_register(Register::Pc, at);
+        Location::InMemory(target) => {
+            machine.processor.set_register(Register::Pc, target);
             Ok(Ending::Completed)
         }
     }
 }
 
+#[tactic(auto, unfolding(crate::specs::Transfers::links))]
 fn link<B: Board, C: Cabinet>(
-    p: &mut Processor,
-    board: &mut B,
-    side: &mut C,
+    machine: &mut Machine<'_, B, C>,
     r: Register,
-    at: u16,
+    target: u16,
 ) -> Result<Ending, Gone>
-    ensures { Played C.Cabinet.meaning C.Cabinet.becomes (links r at p.old) (B.Board.meaning board.old) side.old (beside result p.new) (B.Board.meaning board.new) side.new }
+    ensures { Ran B.Board C.Cabinet (links r target) machine.old (beside result machine.new.processor.now) machine.new }
 {
-    let word = with_lowered_stack(*p).register(r);
-    let Some(()) = push(p, board, side, word)? else {
+    let word = with_lowered_stack(*machine.processor).register(r);
+    let Some(()) = push_on(machine, word)? else {
         return Ok(Ending::TimedOut);
     };
+    let p = &mut *machine.processor;
     p.set_register(r, p.register(Register::Pc));
-    p.set_register(Register::Pc, at);
+    p.set_register(Register::Pc, target);
     Ok(Ending::Completed)
 }
 
-fn call_at<B: Board, C: Cabinet>(
-    p: &mut Processor,
-    board: &mut B,
-    side: &mut C,
-    r: Register,
-    at: Location,
-) -> Result<Ending, Gone>
-    ensures { Played C.Cabinet.meaning C.Cabinet.becomes (calls_at r at p.old) (B.Board.meaning board.old) side.old (beside result p.new) (B.Board.meaning board.new) side.new }
-{
-    match at {
-        Location::InRegister(_) => Ok(Ending::Trapped(Trap::JumpToRegister)),
-        Location::InMemory(target) => link(p, board, side, r, target),
-    }
-}
-
 // JSR.
+#[tactic(auto, unfolding(crate::specs::Transfers::calls, crate::specs::Transfers::calls_at))]
 pub(crate) fn call<B: Board, C: Cabinet>(
-    p: &mut Processor,
-    board: &mut B,
-    side: &mut C,
+    machine: &mut Machine<'_, B, C>,
     r: Register,
     destination: Operand,
 ) -> Result<Ending, Gone>
-    ensures { Played C.Cabinet.meaning C.Cabinet.becomes (calls r destination p.old) (B.Board.meaning board.old) side.old (beside result p.new) (B.Board.meaning board.new) side.new }
+    ensures { Ran B.Board C.Cabinet (calls r destination) machine.old (beside result machine.new.processor.now) machine.new }
 {
-    let Some(at) = locate(p, board, side, Size::Word, destination)? else {
+    let Some(at) = machine.locate(Size::Word, destination)? else {
         return Ok(Ending::TimedOut);
     };
-    call_at(p, board, side, r, at)
+    match at {
+        Location::InRegister(_) => Ok(Ending::Trapped(Trap::JumpToRegister)),
+        Location::InMemory(target) => link(machine, r, target),
+    }
 }
 
+#[tactic(auto, unfolding(crate::specs::Transfers::pops_into))]
 fn pop_into<B: Board, C: Cabinet>(
-    p: &mut Processor,
-    board: &mut B,
-    side: &mut C,
+    machine: &mut Machine<'_, B, C>,
     r: Register,
 ) -> Result<Ending, Gone>
-    ensures { Played C.Cabinet.meaning C.Cabinet.becomes (pops_into r p.old) (B.Board.meaning board.old) side.old (beside result p.new) (B.Board.meaning board.new) side.new }
+    ensures { Ran B.Board C.Cabinet (pops_into r) machine.old (beside result machine.new.processor.now) machine.new }
 {
-    let Some(word) = pop(p, board, side)? else {
+    let Some(word) = pop(machine)? else {
         return Ok(Ending::TimedOut);
     };
-    p.set_register(r, word);
+    machine.processor.set_register(r, word);
     Ok(Ending::Completed)
 }
 
 // RTS.
 pub(crate) fn leave<B: Board, C: Cabinet>(
-    p: &mut Processor,
-    board: &mut B,
-    side: &mut C,
+    machine: &mut Machine<'_, B, C>,
     r: Register,
 ) -> Result<Ending, Gone>
-    ensures { Played C.Cabinet.meaning C.Cabinet.becomes (leaves r p.old) (B.Board.meaning board.old) side.old (beside result p.new) (B.Board.meaning board.new) side.new }
+    ensures { Ran B.Board C.Cabinet (leaves r) machine.old (beside result machine.new.processor.now) machine.new }
 {
+    let p = &mut *machine.processor;
     p.set_register(Register::Pc, p.register(r));
-    pop_into(p, board, side, r)
+    pop_into(machine, r)
 }
 
 // MARK.
 pub(crate) fn mark<B: Board, C: Cabinet>(
-    p: &mut Processor,
-    board: &mut B,
-    side: &mut C,
+    machine: &mut Machine<'_, B, C>,
     words: u8,
 ) -> Result<Ending, Gone>
-    ensures { Played C.Cabinet.meaning C.Cabinet.becomes (marks words p.old) (B.Board.meaning board.old) side.old (beside result p.new) (B.Board.meaning board.new) side.new }
+    ensures { Ran B.Board C.Cabinet (marks words) machine.old (beside result machine.new.processor.now) machine.new }
 {
+    let p = &mut *machine.processor;
     p.set_register(
         Register::Sp,
         p.register(Register::Pc).wrapping_add(2 * u16::from(words)),
     );
     p.set_register(Register::Pc, p.register(Register::R5));
-    pop_into(p, board, side, Register::R5)
-}
-
-fn pop_status<B: Board, C: Cabinet>(
-    p: &mut Processor,
-    board: &mut B,
-    side: &mut C,
-    ending: Ending,
-) -> Result<Ending, Gone>
-    ensures { Played C.Cabinet.meaning C.Cabinet.becomes (pops_status ending p.old) (B.Board.meaning board.old) side.old (beside result p.new) (B.Board.meaning board.new) side.new }
-{
-    let Some(word) = pop(p, board, side)? else {
-        return Ok(Ending::TimedOut);
-    };
-    p.psw = word;
-    Ok(ending)
+    pop_into(machine, Register::R5)
 }
 
 // RTI and RTT, which differ only in how they end.
+#[tactic(auto, unfolding(crate::specs::Transfers::restores, crate::specs::Transfers::pops_status))]
 pub(crate) fn restore<B: Board, C: Cabinet>(
-    p: &mut Processor,
-    board: &mut B,
-    side: &mut C,
+    machine: &mut Machine<'_, B, C>,
     ending: Ending,
 ) -> Result<Ending, Gone>
-    ensures { Played C.Cabinet.meaning C.Cabinet.becomes (restores ending p.old) (B.Board.meaning board.old) side.old (beside result p.new) (B.Board.meaning board.new) side.new }
+    ensures { Ran B.Board C.Cabinet (restores ending) machine.old (beside result machine.new.processor.now) machine.new }
 {
-    let Some(word) = pop(p, board, side)? else {
+    let Some(pc) = pop(machine)? else {
         return Ok(Ending::TimedOut);
     };
-    p.set_register(Register::Pc, word);
-    pop_status(p, board, side, ending)
+    machine.processor.set_register(Register::Pc, pc);
+    let Some(psw) = pop(machine)? else {
+        return Ok(Ending::TimedOut);
+    };
+    machine.processor.psw = psw;
+    Ok(ending)
 }
