@@ -1,16 +1,16 @@
 // How an executed word ends.
 
-// Why an instruction goes to a vector of its own accord.
+// Why an instruction goes to a vector of its own accord, and which vector that is.
 #[derive(Clone, Copy)]
 pub enum Trap {
     // A word that is no instruction.
-    Reserved,
+    Reserved = 0o10,
     // A jump or a call to a register.
-    JumpToRegister,
-    Bpt,
-    Iot,
-    Emt,
-    Trap,
+    JumpToRegister = 0o4,
+    Bpt = 0o14,
+    Iot = 0o20,
+    Emt = 0o30,
+    Trap = 0o34,
 }
 
 // How an executed word ends.

@@ -1,17 +1,18 @@
 // A restart or a step behind its guard: where the cabinet side is gone, the processor is as before, with life ended.
 ghost use Rattle.std.specs.Prelude.{◌≡◌};
 ghost use Rattle.bus.specs.Courses.{Played};
-ghost use Rattle.bus.specs.Memory.{Memory};
+ghost use Rattle.operands.specs.Machines.{Ran};
 ghost use Rattle.operands.specs.State.{beside, with_life};
 ghost use Rattle.operands.specs.declared.state.Life.TheVariants.{Ended};
 ghost use Rattle.processor.specs.Jobs.{cleared, new, restarts, courses, Carried, Performed};
 
 use crate::answer::Answer;
 use crate::step::attempt;
-use bus::{Board, Cabinet, Gone, LineBits, Request};
-use operands::{Life, Processor, Requests};
+use bus::{Board, Cabinet, Gone, Request};
+use operands::{Life, Machine, Processor};
 
-// What a processor is asked to do: to start anew with this PC and PSW, or to make a step.
+// What a processor is asked to do: to start anew with this PC and PSW, or to make a step. A value and no closure, since calls
+// and laws speak of it, and no `Option` of the two words, since a step is no missing restart.
 #[derive(Clone, Copy)]
 pub enum Job {
     Restart(u16, u16),
@@ -19,7 +20,7 @@ pub enum Job {
 }
 
 // A processor, and its state before the current job.
-#[derive(Clone, Copy)]
+#[derive(Clone, Copy, Default)]
 pub struct Bench {
     pub processor: Processor,
     pub saved: Processor,
@@ -31,20 +32,8 @@ fn cleared_processor(pc: u16, psw: u16) -> Processor
     Processor {
         registers: [0, 0, 0, 0, 0, 0, 0, pc],
         psw,
-        lines: LineBits {
-            aclo: false,
-            irq2: false,
-            irq3: false,
-            virq: false,
-        },
-        requests: Requests {
-            aclo: false,
-            irq2: false,
-            irq3: false,
-        },
-        trace: false,
-        waiting: false,
         life: Life::Running,
+        ..Processor::default()
     }
 }
 
@@ -54,12 +43,7 @@ impl Bench {
         ensures processor { result.processor ≡ new }
         ensures saved { result.saved ≡ new }
     {
-        let mut processor = cleared_processor(0, 0);
-        processor.life = Life::Halted;
-        Bench {
-            processor,
-            saved: processor,
-        }
+        Bench::default()
     }
 }
 
@@ -86,11 +70,16 @@ impl Guard<'_> {
     }
 }
 
-fn restart<C: Cabinet>(p: &mut Processor, side: &mut C, pc: u16, psw: u16) -> Result<Answer, Gone>
-    ensures { (m : Memory) → Played C.Cabinet.meaning C.Cabinet.becomes (restarts pc psw) m side.old (beside result p.new) m side.new }
+#[tactic(auto, unfolding(crate::specs::Jobs::restarts))]
+fn restart<B: Board, C: Cabinet>(
+    machine: &mut Machine<'_, B, C>,
+    pc: u16,
+    psw: u16,
+) -> Result<Answer, Gone>
+    ensures { Ran B.Board C.Cabinet (λ p. restarts pc psw) machine.old (beside result machine.new.processor.now) machine.new }
 {
-    let _answered = side.ask(Request::Init)?;
-    *p = cleared_processor(pc, psw);
+    let _answered = machine.side.ask(Request::Init)?;
+    *machine.processor = cleared_processor(pc, psw);
     Ok(Answer::WentOn)
 }
 
@@ -100,11 +89,16 @@ fn work<B: Board, C: Cabinet>(
     side: &mut C,
     job: Job,
 ) -> Result<Answer, Gone>
-    ensures { Played C.Cabinet.meaning C.Cabinet.becomes (courses job p.old) (B.Board.meaning board.old) side.old (beside result p.new) (B.Board.meaning board.new) side.new }
+    ensures { Played C.meaning C.becomes (courses job p.old) (B.meaning board.old) side.old (beside result p.new) (B.meaning board.new) side.new }
 {
+    let mut machine = Machine {
+        processor: p,
+        board,
+        side,
+    };
     match job {
-        Job::Restart(pc, psw) => restart(p, side, pc, psw),
-        Job::Step => attempt(p, board, side),
+        Job::Restart(pc, psw) => restart(&mut machine, pc, psw),
+        Job::Step => attempt(&mut machine),
     }
 }
 

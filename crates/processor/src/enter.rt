@@ -1,16 +1,16 @@
 // Entering a vector: PSW and PC are pushed, and loaded anew.
 ghost use Rattle.std.specs.Prelude.{◌≡◌};
-ghost use Rattle.bus.specs.Courses.{Played};
 ghost use Rattle.operands.specs.State.{beside, with_life};
+ghost use Rattle.operands.specs.Machines.{Ran};
 ghost use Rattle.operands.specs.declared.state.Life.TheVariants.{Dead};
 ghost use Rattle.processor.specs.declared.answer.Answer.TheVariants.{Dead as Died};
-ghost use Rattle.processor.specs.Entering.{unmarked, loads_psw, loads_pc, pushes_pc, enters};
+ghost use Rattle.processor.specs.Entering.{unmarked, loads_pc, enters};
 
 use crate::answer::Answer;
 use bus::{Board, Cabinet, Gone, load};
-use execution::push;
+use execution::push_on;
 use isa::Register;
-use operands::{Life, Processor};
+use operands::{Life, Machine, Processor};
 
 // A time-out while entering is the end.
 pub(crate) fn die(p: &mut Processor) -> Answer
@@ -28,62 +28,41 @@ fn clear_marks(p: &mut Processor)
     p.waiting = false;
 }
 
-fn load_psw<B: Board, C: Cabinet>(
-    p: &mut Processor,
-    board: &mut B,
-    side: &mut C,
+// Loads PC from the vector, and PSW from the word after it.
+#[tactic(auto, unfolding(crate::specs::Entering::loads_pc, crate::specs::Entering::loads_psw))]
+fn load_anew<B: Board, C: Cabinet>(
+    machine: &mut Machine<'_, B, C>,
     vector: u16,
 ) -> Result<Answer, Gone>
-    ensures { Played C.Cabinet.meaning C.Cabinet.becomes (loads_psw vector p.old) (B.Board.meaning board.old) side.old (beside result p.new) (B.Board.meaning board.new) side.new }
+    ensures { Ran B.Board C.Cabinet (loads_pc vector) machine.old (beside result machine.new.processor.now) machine.new }
 {
-    let Some(psw) = load(board, side, vector.wrapping_add(2))? else {
-        return Ok(die(p));
+    let Some(pc) = load(machine.board, machine.side, vector)? else {
+        return Ok(die(machine.processor));
     };
-    p.psw = psw;
+    machine.processor.set_register(Register::Pc, pc);
+    let Some(psw) = load(machine.board, machine.side, vector.wrapping_add(2))? else {
+        return Ok(die(machine.processor));
+    };
+    machine.processor.psw = psw;
     Ok(Answer::Entered)
 }
 
-fn load_pc<B: Board, C: Cabinet>(
-    p: &mut Processor,
-    board: &mut B,
-    side: &mut C,
-    vector: u16,
-) -> Result<Answer, Gone>
-    ensures { Played C.Cabinet.meaning C.Cabinet.becomes (loads_pc vector p.old) (B.Board.meaning board.old) side.old (beside result p.new) (B.Board.meaning board.new) side.new }
-{
-    let Some(pc) = load(board, side, vector)? else {
-        return Ok(die(p));
-    };
-    p.set_register(Register::Pc, pc);
-    load_psw(p, board, side, vector)
-}
-
-fn push_pc<B: Board, C: Cabinet>(
-    p: &mut Processor,
-    board: &mut B,
-    side: &mut C,
-    vector: u16,
-) -> Result<Answer, Gone>
-    ensures { Played C.Cabinet.meaning C.Cabinet.becomes (pushes_pc vector p.old) (B.Board.meaning board.old) side.old (beside result p.new) (B.Board.meaning board.new) side.new }
-{
-    let Some(()) = push(p, board, side, p.register(Register::Pc))? else {
-        return Ok(die(p));
-    };
-    load_pc(p, board, side, vector)
-}
-
 // Enters a vector.
+#[tactic(auto, unfolding(crate::specs::Entering::enters, crate::specs::Entering::pushes_pc))]
 pub(crate) fn enter<B: Board, C: Cabinet>(
-    p: &mut Processor,
-    board: &mut B,
-    side: &mut C,
+    machine: &mut Machine<'_, B, C>,
     vector: u16,
 ) -> Result<Answer, Gone>
-    ensures { Played C.Cabinet.meaning C.Cabinet.becomes (enters vector p.old) (B.Board.meaning board.old) side.old (beside result p.new) (B.Board.meaning board.new) side.new }
+    ensures { Ran B.Board C.Cabinet (enters vector) machine.old (beside result machine.new.processor.now) machine.new }
 {
-    clear_marks(p);
-    let Some(()) = push(p, board, side, p.psw)? else {
-        return Ok(die(p));
+    clear_marks(machine.processor);
+    let psw = machine.processor.psw;
+    let Some(()) = push_on(machine, psw)? else {
+        return Ok(die(machine.processor));
     };
-    push_pc(p, board, side, vector)
+    let pc = machine.processor.register(Register::Pc);
+    let Some(()) = push_on(machine, pc)? else {
+        return Ok(die(machine.processor));
+    };
+    load_anew(machine, vector)
 }

@@ -21,22 +21,16 @@ fn is_odd(n: u16) -> bool
     n % 2 == 1
 }
 
+// The lines of a reply; none is active where it timed out.
 pub(crate) fn lines_in(reply: Option<u16>) -> LineBits
     ensures { result ≡ lines_of reply }
 {
-    match reply {
-        Some(word) => LineBits {
-            aclo: is_odd(word),
-            irq2: is_odd(word / 2),
-            irq3: is_odd(word / 4),
-            virq: is_odd(word / 8),
-        },
-        None => LineBits {
-            aclo: false,
-            irq2: false,
-            irq3: false,
-            virq: false,
-        },
+    let word = reply.unwrap_or_default();
+    LineBits {
+        aclo: is_odd(word),
+        irq2: is_odd(word / 2),
+        irq3: is_odd(word / 4),
+        virq: is_odd(word / 8),
     }
 }
 
