@@ -1,6 +1,5 @@
 // Numbers of the two sizes: how many there are, and which have the sign.
 ghost use Rattle.std.specs.Prelude.{◌≡◌, ◌+◌, ◌-◌, ◌%◌, ◌<◌, ◌≤◌, bit_and};
-ghost use Rattle.isa.specs.declared.instruction.Size.TheVariants.{Word};
 ghost use Rattle.arithmetic.specs.Widths.{span, negative};
 
 use isa::Size;
@@ -33,17 +32,6 @@ impl Number {
         Number {
             size,
             value: (number % span_of(size)) as u16,
-        }
-    }
-
-    // A word.
-    pub(crate) fn word(value: u16) -> Number
-        ensures size { result.size ≡ Word }
-        ensures value { result.value ≡ value }
-    {
-        Number {
-            size: Size::Word,
-            value,
         }
     }
 

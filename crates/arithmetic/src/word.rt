@@ -28,7 +28,8 @@ pub fn subtract(source: u16, destination: u16) -> Outcome
 pub fn exclusive_or(source: u16, destination: u16, flags: Flags) -> Outcome
     ensures { result ≡ exclusive_or_outcome source destination flags }
 {
-    Outcome::logical(Number::word(source ^ destination), flags.c)
+    let differing = Number::of(Size::Word, (source ^ destination) as u32);
+    Outcome::logical(differing, flags.c)
 }
 
 // SWAB: the two bytes exchanged; N and Z by the low byte of the result.
@@ -48,6 +49,6 @@ pub fn swap_bytes(operand: u16) -> Outcome
 pub fn sign_extend(flags: Flags) -> Outcome
     ensures { result ≡ extend_outcome flags }
 {
-    let value = if flags.n { 0o177777 } else { 0 };
-    Outcome::logical(Number::word(value), flags.c)
+    let bits = if flags.n { 0o177777 } else { 0 };
+    Outcome::logical(Number::of(Size::Word, bits), flags.c)
 }

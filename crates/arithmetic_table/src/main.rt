@@ -10,6 +10,7 @@ use row::Row;
 fn run(rt: &HostRuntime) -> anyhow::Result<()> {
     let mut rows = 0u64;
     let mut mismatches = 0u64;
+    // A loop, since a line may fail to be read and a mismatch is printed; both counts are wanted at its end.
     for line in rt.lines(rt.alloc()) {
         let line = line?;
         rows = rows.saturating_add(1);

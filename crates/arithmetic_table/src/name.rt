@@ -19,6 +19,7 @@ pub enum Operation {
     Distance,
 }
 
+// Names are matched here and below: no derive reads a name, and the enums are another crate's, so FromStr cannot be theirs.
 fn single_named(name: &str) -> Option<SingleOperation> {
     let operation = match name {
         "CLR" => SingleOperation::Clr,
