@@ -1,6 +1,6 @@
 // The word of an instruction.
 ghost use Rattle.std.specs.Prelude.{◌≡◌, ◌+◌, ◌*◌, ◌<◌, ◌≤◌, ◌%◌};
-ghost use Rattle.isa.specs.Word.{number, bits, word};
+ghost use Rattle.isa.specs.Word.{number, bits, byte, word};
 
 use crate::instruction::Instruction;
 use crate::operand::{Operand, Register};
@@ -15,9 +15,7 @@ pub fn encode(instruction: Instruction) -> u16
         Instruction::Return(link) => 0o000200 + link as u16,
         Instruction::Flags(change, mask) => change as u16 + mask.bits(),
         Instruction::SwapBytes(destination) => 0o000300 + operand_digits(destination),
-        Instruction::Branch(condition, offset) => {
-            condition as u16 + offset.cast_unsigned() as u16
-        }
+        Instruction::Branch(condition, offset) => condition as u16 + low_byte(offset),
         Instruction::Call(link, target) => with_register(0o004000, link, target),
         Instruction::Single(size, operation, destination) => {
             size as u16 + operation as u16 + operand_digits(destination)
@@ -83,4 +81,12 @@ fn with_operands(base: u16, source: Operand, destination: Operand) -> u16
     ensures bound { result < base + 0o10000 }
 {
     base + 0o100 * operand_digits(source) + operand_digits(destination)
+}
+
+// The low byte that stands for an offset.
+fn low_byte(offset: i8) -> u16
+    ensures value { result ≡ byte offset }
+    ensures bound { result < 0o400 }
+{
+    offset.cast_unsigned() as u16
 }
