@@ -1,4 +1,3 @@
-pub mod Computed
 pub mod Digits
 pub mod Law
 pub mod Listed

@@ -3,7 +3,7 @@ use Rattle.std.proofs.iter.runs.Sources.{inclusive_listed}
 use Rattle.std.specs.Range.{range_inclusive_start, range_inclusive_end}
 use Rattle.std.proofs.lemmas.List.Sums.{length-filter}
 use Rattle.isa_laws.specs.OneReading.{reserved_word, how_many}
-use Rattle.isa_laws.proofs.Computed.{counted_in}
+use Rattle.isa_laws.proofs.Readings.{counted_in}
 use Rattle.isa_laws.proofs.Law.{words_have_one_reading}
 use Rattle.isa_laws.proofs.Readings.{reserved_number}
 use Rattle.isa_laws.proofs.reserved_words.Goals as goal
