@@ -19,12 +19,12 @@ returns c =
     let whole = kept.2.0 ∙ counts.2 in
     let long : length words.items ≡ 0o200000 = omega (arith, words.long, places.0.1 whole, listed.2, listed.3, ap range_inclusive_start kept.1, ap range_inclusive_end kept.1) in
     let at_place : (k : ℕ) → k < 0o200000 → slice_index_or words.items k 0 ≡ k = λ k low.
-      let below : k < words.len = omega (arith, words.long, long) in
-      let place : slice_index_or words.items k 0 ≡ listed.0 + k = cc (words.reads k 0 below, places.0.3 k below) in
-      omega (arith, place, listed.2, ap range_inclusive_start kept.1) in
+    let below : k < words.len = omega (arith, words.long, long) in
+    let place : slice_index_or words.items k 0 ≡ listed.0 + k = cc (words.reads k 0 below, places.0.3 k below) in
+    omega (arith, place, listed.2, ap range_inclusive_start kept.1) in
     let counted : c.count.result ≡ how_many reserved_word 0o200000 =
-      counts.3 ∙ counts.0.long ∙ ap length passed ∙ length-filter reserved_word words.items
-      ∙ counted_in reserved_word words.items 0o200000 long at_place in
+    counts.3 ∙ counts.0.long ∙ ap length passed ∙ length-filter reserved_word words.items
+    ∙ counted_in reserved_word words.items 0o200000 long at_place in
     record {
       counted = counted;
       number = counted ∙ reserved_number;
