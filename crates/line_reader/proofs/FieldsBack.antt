@@ -2,7 +2,6 @@
 use Rattle.std.proofs.Common.{◌≡◌, ℕ, ◌+◌, ◌-◌, ◌*◌, ◌/◌, ◌%◌, ◌<◌, true, List, ◌∷◌, ◌++◌, drop, ℤ, pos, negsuc, arith, ltb-true}
 use Rattle.std.proofs.lemmas.Bool.Decides.{nat_tests}
 use Rattle.isa.specs.declared.operand.Register.{Register}
-use Rattle.isa.specs.declared.operand.Register.TheVariants.{R0, R1, R2, R3, R4, R5, Sp, Pc}
 use Rattle.isa_laws.specs.OneReading.{in_byte}
 use Rattle.isa_laws.proofs.Digits.{offset_at}
 use Rattle.listing.specs.Names.{register_name}
@@ -23,17 +22,6 @@ number_back n rest h =
     let e = digit_back (n / 0o10 % 8) (omega arith) in
     let f = digit_back (n % 8) (omega arith) in
     simp (a, b, c, d, e, f) (omega arith)
-
--- what holds at each register
-pub each_register : (P : Register → Type 0) → P R0 → P R1 → P R2 → P R3 → P R4 → P R5 → P Sp → P Pc → (r : Register) → P r
-each_register P a b c d e f g h R0 = a
-each_register P a b c d e f g h R1 = b
-each_register P a b c d e f g h R2 = c
-each_register P a b c d e f g h R3 = d
-each_register P a b c d e f g h R4 = e
-each_register P a b c d e f g h R5 = f
-each_register P a b c d e f g h Sp = g
-each_register P a b c d e f g h Pc = h
 
 pub register_back : (r : Register) (rest : List ℕ) → register_in (register_name r ++ rest) ≡ r
 register_back r rest = grind arith
