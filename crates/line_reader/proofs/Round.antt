@@ -1,5 +1,5 @@
 -- The line of a listing is taken for the words that it shows.
-use Rattle.std.proofs.Common.{◌≡◌, ℕ, ◌+◌, ◌%◌, ◌<◌, ◌≤◌, Bool, true, cond, eqb, ltb, List, [], ◌∷◌, ◌++◌, drop, ℤ, pos, negsuc, codes, sym, refl, ap, ◌∙◌, inl, inr, append-nil, mod-eq_of_lt, arith, ltb-true, eqb-true}
+use Rattle.std.proofs.Common.{◌≡◌, ℕ, ◌+◌, ◌%◌, ◌<◌, ◌≤◌, Bool, true, cond, ltb, List, [], ◌∷◌, ◌++◌, drop, ℤ, pos, negsuc, codes, sym, refl, ap, ◌∙◌, inl, inr, append-nil, mod-eq_of_lt, arith, ltb-true}
 use Rattle.std.proofs.Math.Seq.{drop-append-add}
 use Rattle.std.proofs.lemmas.Bool.{cond_both}
 use Rattle.std.proofs.lemmas.Bool.Decides.{nat_tests}
@@ -91,15 +91,11 @@ two_back a m name z s d x y hx hy o =
     ∙ ap (pair_words name z (parsed_of s x)) (operand_alone d n (cond_both (takes_word s) y x (λ k. k < 65536) (λ e. hy) (λ e. hx)))
     ∙ two-words (takes_word s) (takes_word d) (code.word (two_instruction name z s d)) x y
 
--- a number alone
-number_alone : (n : ℕ) → n < 65536 → number_in (octal n) ≡ n
-number_alone n hn = number_back n [] hn
-
 numbered-back
     : (a : ℕ) (m : List ℕ) (name : Numbered) (n : ℕ) → n < 65536 →
     Opens (behind m (octal n)) Word (octal n) (Mnemonic.Number name) → candidate a (behind m (octal n)) ≡ numbered_words name n
 numbered-back a m name n hn o =
-    opened a (behind m (octal n)) Word (octal n) (Mnemonic.Number name) o ∙ ap (numbered_words name) (number_alone n hn)
+    opened a (behind m (octal n)) Word (octal n) (Mnemonic.Number name) o ∙ ap (numbered_words name) (number_back n [] hn)
 
 -- a number that an instruction holds whole, below a bound
 counted-back
@@ -114,29 +110,9 @@ unnamed_back : (a w : ℕ) → w < 65536 → candidate a (unnamed w) ≡ w ∷ 0
 unfolding mnemonic_in
 unnamed_back a w hw = numbered-back a (codes ".WORD") Numbered.Data w hw (refl, refl, refl)
 
--- one row of the flag words that have names
-flag-row
-    : (a w k : ℕ) (name others : List ℕ) → candidate a name ≡ k ∷ 0 ∷ 0 ∷ [] → candidate a others ≡ w ∷ 0 ∷ 0 ∷ [] →
-    candidate a (cond (eqb w k) name others) ≡ w ∷ 0 ∷ 0 ∷ []
-flag-row a w k name others p q =
-    cond_both (eqb w k) name others (λ s. candidate a s ≡ w ∷ 0 ∷ 0 ∷ [])
-    (λ e. p ∙ ap (λ v. v ∷ 0 ∷ 0 ∷ []) (sym (eqb-true w k e))) (λ e. q)
-
 flags_back : (a w : ℕ) → w < 65536 → candidate a (flag_text w) ≡ w ∷ 0 ∷ 0 ∷ []
 unfolding mnemonic_in
-flags_back a w hw =
-    flag-row a w 0o240 (codes "NOP") _ refl
-    (flag-row a w 0o241 (codes "CLC") _ refl
-    (flag-row a w 0o242 (codes "CLV") _ refl
-    (flag-row a w 0o244 (codes "CLZ") _ refl
-    (flag-row a w 0o250 (codes "CLN") _ refl
-    (flag-row a w 0o257 (codes "CCC") _ refl
-    (flag-row a w 0o261 (codes "SEC") _ refl
-    (flag-row a w 0o262 (codes "SEV") _ refl
-    (flag-row a w 0o264 (codes "SEZ") _ refl
-    (flag-row a w 0o270 (codes "SEN") _ refl
-    (flag-row a w 0o277 (codes "SCC") _ refl
-    (unnamed_back a w hw)))))))))))
+flags_back a w hw = grind (arith, nat_tests, unnamed_back a w hw)
 
 branch-line-back
     : (a : ℕ) (c : Condition) (z : ℤ) → a < 65536 → in_byte z ≡ true →
@@ -144,7 +120,7 @@ branch-line-back
 branch-line-back a c z ha hz =
     let s = behind (condition_name c) (octal (branch_target a z)) in
     opened a s (size_in s) (octal (branch_target a z)) (Mnemonic.Branch c) (branch_opens c (octal (branch_target a z)))
-    ∙ ap (λ (n : ℕ). words_of (Instruction.Branch c (offset_to a n)) 0) (number_alone (branch_target a z) (target_small z))
+    ∙ ap (λ (n : ℕ). words_of (Instruction.Branch c (offset_to a n)) 0) (number_back (branch_target a z) [] (target_small z))
     ∙ ap (λ (q : ℤ). words_of (Instruction.Branch c q) 0) (branch_back a z ha hz)
   where
     target_small : (q : ℤ) → branch_target a q < 65536
@@ -161,7 +137,7 @@ loop-line-back a r n ha hn =
     opened a (behind (codes "SOB") s) Word s Mnemonic.Loop (refl, refl, refl)
     ∙ ap (λ (q : Register). words_of (Instruction.Loop q (count_to a (number_in (drop 3 s)))) 0) (register_back r (44 ∷ t))
     ∙ ap (λ (l : List ℕ). words_of (Instruction.Loop r (count_to a (number_in l))) 0) (behind_register r t)
-    ∙ ap (λ (m : ℕ). words_of (Instruction.Loop r (count_to a m)) 0) (number_alone (loop_target a n) (omega arith))
+    ∙ ap (λ (m : ℕ). words_of (Instruction.Loop r (count_to a m)) 0) (number_back (loop_target a n) [] (omega arith))
     ∙ ap (λ (m : ℕ). words_of (Instruction.Loop r m) 0) (loop-back a n ha hn)
 
 -- the text of a listed instruction
