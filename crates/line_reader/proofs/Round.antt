@@ -1,5 +1,5 @@
 -- The line of a listing is taken for the words that it shows.
-use Rattle.std.proofs.Common.{◌≡◌, ℕ, ◌+◌, ◌%◌, ◌<◌, ◌≤◌, Bool, true, cond, ltb, List, [], ◌∷◌, ◌++◌, drop, ℤ, pos, negsuc, codes, sym, refl, ap, ◌∙◌, inl, inr, append-nil, mod-eq_of_lt, arith, ltb-true}
+use Rattle.std.proofs.Common.{◌≡◌, ℕ, ◌+◌, ◌%◌, ◌<◌, ◌≤◌, Bool, true, cond, ltb, List, [], ◌∷◌, ◌++◌, drop, ℤ, pos, negsuc, codes, sym, refl, ap, ◌∙◌, inl, inr, mod-eq_of_lt, arith, ltb-true}
 use Rattle.std.proofs.Math.Seq.{drop-append-add}
 use Rattle.std.proofs.lemmas.Bool.{cond_both}
 use Rattle.std.proofs.lemmas.Bool.Decides.{nat_tests}
@@ -24,7 +24,7 @@ use Rattle.line_reader.specs.declared.parsed.Numbered.{Numbered}
 use Rattle.line_reader.specs.declared.parsed.OneOperand.{OneOperand}
 use Rattle.line_reader.specs.declared.parsed.TwoOperands.{TwoOperands}
 use Rattle.line_reader.specs.declared.parsed.RegisterFirst.{RegisterFirst}
-use Rattle.line_reader.specs.Fields.{number_in, size_in, offset_to, count_to}
+use Rattle.line_reader.specs.Fields.{size_in}
 use Rattle.line_reader.specs.Mnemonics.{mnemonic_in}
 use Rattle.line_reader.specs.Operands.{operand_in}
 use Rattle.line_reader.specs.Candidate.{one_instruction, two_instruction, register_instruction, words_of, numbered_words, pair_words, candidate}
@@ -37,9 +37,6 @@ use Rattle.line_reader.proofs.Shown.{shown_same}
 -- the word of an instruction and the k further words that it takes, then zeros
 abbrev taken_by : Instruction → ℕ → ℕ → List ℕ
 taken_by i x y = code.word i ∷ cond (ltb 0 (further_words i)) x 0 ∷ cond (ltb 1 (further_words i)) y 0 ∷ []
-
-one_word : (b : Bool) (w x y : ℕ) → ◌≡◌ {A = List ℕ} (w ∷ cond b x 0 ∷ 0 ∷ []) (w ∷ cond (ltb 0 (bit b + 0)) x 0 ∷ cond (ltb 1 (bit b + 0)) y 0 ∷ [])
-one_word b w x y = grind (arith, nat_tests)
 
 two-words
     : (b c : Bool) (w x y : ℕ) →
@@ -55,9 +52,9 @@ one-back
     candidate a (behind m (operand_text d x))
     ≡ code.word (one_instruction name z d) ∷ cond (ltb 0 (bit (takes_word d) + 0)) x 0 ∷ cond (ltb 1 (bit (takes_word d) + 0)) y 0 ∷ []
 one-back a m name z d x y hx o =
-    opened a (behind m (operand_text d x)) z (operand_text d x) (Mnemonic.One name) o
-    ∙ ap (λ (p : Parsed). words_of (one_instruction name z p.operand) p.number) (operand_alone d x hx)
-    ∙ one_word (takes_word d) (code.word (one_instruction name z d)) x y
+    let r = opened a (behind m (operand_text d x)) z (operand_text d x) (Mnemonic.One name) o in
+    let p = operand_alone d x hx in
+    grind (arith, nat_tests)
 
 -- a register and an operand
 register-operand-back
@@ -67,10 +64,11 @@ register-operand-back
     ≡ code.word (register_instruction name r d) ∷ cond (ltb 0 (bit (takes_word d) + 0)) x 0 ∷ cond (ltb 1 (bit (takes_word d) + 0)) y 0 ∷ []
 register-operand-back a m name z r d x y hx o =
     let t = pair (register_name r) (operand_text d x) in
-    opened a (behind m t) z t (Mnemonic.Register name) o
-    ∙ ap (λ (q : Register). words_of (register_instruction name q (operand_in (drop 3 t)).operand) (operand_in (drop 3 t)).number) (register_back r (44 ∷ operand_text d x))
-    ∙ ap (λ (p : Parsed). words_of (register_instruction name r p.operand) p.number) (ap operand_in (behind_register r (operand_text d x)) ∙ operand_alone d x hx)
-    ∙ one_word (takes_word d) (code.word (register_instruction name r d)) x y
+    let q = opened a (behind m t) z t (Mnemonic.Register name) o in
+    let k = register_back r (44 ∷ operand_text d x) in
+    let rest = behind_register r (operand_text d x) in
+    let p = operand_alone d x hx in
+    grind (arith, nat_tests)
 
 -- two operands
 two_back
@@ -118,10 +116,12 @@ branch-line-back
     : (a : ℕ) (c : Condition) (z : ℤ) → a < 65536 → in_byte z ≡ true →
     candidate a (behind (condition_name c) (octal (branch_target a z))) ≡ words_of (Instruction.Branch c z) 0
 branch-line-back a c z ha hz =
-    let s = behind (condition_name c) (octal (branch_target a z)) in
-    opened a s (size_in s) (octal (branch_target a z)) (Mnemonic.Branch c) (branch_opens c (octal (branch_target a z)))
-    ∙ ap (λ (n : ℕ). words_of (Instruction.Branch c (offset_to a n)) 0) (number_back (branch_target a z) [] (target_small z))
-    ∙ ap (λ (q : ℤ). words_of (Instruction.Branch c q) 0) (branch_back a z ha hz)
+    let t = octal (branch_target a z) in
+    let s = behind (condition_name c) t in
+    let o = opened a s (size_in s) t (Mnemonic.Branch c) (branch_opens c t) in
+    let n = number_back (branch_target a z) [] (target_small z) in
+    let b = branch_back a z ha hz in
+    cc
   where
     target_small : (q : ℤ) → branch_target a q < 65536
     target_small (pos n) = omega arith
@@ -133,12 +133,12 @@ loop-line-back
 unfolding mnemonic_in
 loop-line-back a r n ha hn =
     let t = octal (loop_target a n) in
-    let s = pair (register_name r) t in
-    opened a (behind (codes "SOB") s) Word s Mnemonic.Loop (refl, refl, refl)
-    ∙ ap (λ (q : Register). words_of (Instruction.Loop q (count_to a (number_in (drop 3 s)))) 0) (register_back r (44 ∷ t))
-    ∙ ap (λ (l : List ℕ). words_of (Instruction.Loop r (count_to a (number_in l))) 0) (behind_register r t)
-    ∙ ap (λ (m : ℕ). words_of (Instruction.Loop r (count_to a m)) 0) (number_back (loop_target a n) [] (omega arith))
-    ∙ ap (λ (m : ℕ). words_of (Instruction.Loop r m) 0) (loop-back a n ha hn)
+    let o = opened a (behind (codes "SOB") (pair (register_name r) t)) Word (pair (register_name r) t) Mnemonic.Loop (refl, refl, refl) in
+    let k = register_back r (44 ∷ t) in
+    let rest = behind_register r t in
+    let m = number_back (loop_target a n) [] (omega arith) in
+    let c = loop-back a n ha hn in
+    cc
 
 -- the text of a listed instruction
 back
@@ -148,7 +148,7 @@ unfolding mnemonic_in
 back a words (Instruction.Control c) ha h l e = control_back a c
 back a words (Instruction.Jump d) ha h l e =
     one-back a (codes "JMP") OneOperand.Jump Word d (first words) (second words) h.first_fits (refl, refl, refl)
-back a words (Instruction.Return r) ha h l e = ap (λ (q : Register). words_of (Instruction.Return q) 0) (rw append-nil at (register_back r []))
+back a words (Instruction.Return r) ha h l e = grind arith
 back a words (Instruction.Flags change m) ha h l e =
     flags_back a (word words) h.word_fits ∙ ap (λ (w : ℕ). w ∷ 0 ∷ 0 ∷ []) (sym e)
 back a words (Instruction.SwapBytes d) ha h l e =
