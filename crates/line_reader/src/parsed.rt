@@ -13,7 +13,7 @@ pub struct Parsed {
 #[derive(Clone, Copy)]
 pub enum Mnemonic {
     Control(Control),
-    // The word that clears or sets the flags of this name.
+    // The word itself, as it stands in memory, that clears or sets the flags of this name.
     Flags(u16),
     Branch(Condition),
     Return,
