@@ -55,19 +55,12 @@ fn listed_length(address: u16, words: [u16; 3], out: &mut [u8; LONGEST_LINE]) ->
     list(address, words, out).map_or(0, |listed| listed.length)
 }
 
-// Reads a line back that is known to be the listing of these words.
-fn read_listing(address: u16, words: [u16; 3], line: &[u8]) -> ReadBack
-    requires { text address words ≡ line.now }
-    ensures { result ≡ read_as words }
-{
-    read_back(address, line)
-}
-
-// Lists words and reads the listing back: it gives the words that were used, then zeros.
+// Lists words and reads the listing back: it gives the words that were used, then zeros. The law is of `list` itself, so the
+// buffer that it fills stands here with the length that it answers.
 pub fn list_and_read_back(address: u16, words: [u16; 3]) -> ReadBack
     ensures { result ≡ read_as words }
 {
     let mut out = [0; LONGEST_LINE];
     let length = listed_length(address, words, &mut out);
-    read_listing(address, words, &out[..length])
+    read_back(address, &out[..length])
 }

@@ -2,7 +2,7 @@
 ghost use Rattle.std.specs.Prelude.{◌≡◌, drop, slice_index};
 ghost use Rattle.line_reader.specs.Fields.{behind_name};
 
-// The character at an index, or NUL past the end.
+// The character at an index, or NUL past the end: a plain value, to be matched against char literals.
 pub(crate) fn look(line: &[u8], index: usize) -> char
     ensures { result ≡ slice_index line.now index }
 {
