@@ -51,9 +51,12 @@ fn lists(row: &Row<'_>) -> bool {
 fn reads_back(row: &Row<'_>) -> bool {
     let back = read_back(row.address, row.text.as_bytes());
     let [word, first, second] = row.words;
-    let first = if row.used < 2 { 0 } else { first };
-    let second = if row.used < 3 { 0 } else { second };
-    back.refusal.is_none() && back.words == [word, first, second]
+    let shown = match row.used {
+        0 | 1 => [word, 0, 0],
+        2 => [word, first, 0],
+        _ => [word, first, second],
+    };
+    back.refusal.is_none() && back.words == shown
 }
 
 fn run(rt: &HostRuntime) -> anyhow::Result<()> {
