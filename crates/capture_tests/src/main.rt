@@ -17,28 +17,17 @@ fn print_record(rt: &HostRuntime, record: Record) -> io::Result<()> {
         address,
         word,
     } = fields_of(record);
-    let mark = if answered { 1 } else { 0 };
+    let kind = kind.number();
+    let mark = u8::from(answered);
     print!(rt; "  {kind} {mark} {address:o} {word:o}")?;
-    for (i, byte) in record.added().iter().enumerate() {
-        if i == 0 {
-            print!(rt; " ")?;
-        }
+    let added = record.added();
+    if !added.is_empty() {
+        print!(rt; " ")?;
+    }
+    for byte in added {
         print!(rt; "{byte:02x}")?;
     }
     println!(rt; "")
-}
-
-fn print_records(rt: &HostRuntime, feed: &mut Feed) -> io::Result<()> {
-    while let Some(record) = feed.next() {
-        print_record(rt, record)?;
-    }
-    Ok(())
-}
-
-// How many records a feed has left.
-fn records_left(feed: &mut Feed) -> usize {
-    while let Some(_) = feed.next() {}
-    feed.used()
 }
 
 // One capture: the refusal with its number, block and byte, or its records.
@@ -51,13 +40,16 @@ fn run_case(rt: &HostRuntime, name: &str) -> io::Result<()> {
         Ok(()) => {
             let mut again = Feed::empty();
             let _ = again.check(bytes);
-            let records = records_left(&mut again);
+            let records = again.count();
             println!(rt; "{name}: {records} records")?;
-            print_records(rt, &mut feed)
+            for record in feed {
+                print_record(rt, record)?;
+            }
+            Ok(())
         }
         Err(refusal) => {
             let number = refusal.number();
-            let left = records_left(&mut feed);
+            let left = feed.count();
             let block = refused_block(bytes);
             let start = (BLOCK * block).min(bytes.len());
             let byte = refused_byte(refusal, &bytes[start..]);
@@ -70,10 +62,9 @@ fn run_case(rt: &HostRuntime, name: &str) -> io::Result<()> {
 fn run_lengths(rt: &HostRuntime) -> io::Result<()> {
     for blocks in [1, 2, MOST_BLOCKS, MOST_BLOCKS + 1] {
         let zeros = vec![in rt.alloc(); 0u8; BLOCK * blocks]?;
-        let answer = match check(zeros.as_slice()) {
-            Ok(()) => 0,
-            Err(refusal) => refusal.number(),
-        };
+        let answer = check(zeros.as_slice())
+            .err()
+            .map_or(0, |refusal| refusal.number());
         println!(rt; "{blocks} blocks of zeros: {answer}")?;
     }
     Ok(())

@@ -12,54 +12,36 @@ const NUMBER: u16 = 0x1234;
 fn exchange(i: u16) -> Exchange {
     let address = 0o177600 + 2 * (i % 64);
     let word = i.wrapping_mul(257);
-    let timed_out = i % 4 == 3;
-    let request = match i % 6 {
-        0 => Request::Init,
-        1 => Request::Lines,
-        2 => Request::Read(address),
-        3 => Request::Write(address, word),
-        4 => Request::WriteByte(address + 1, (word % 256) as u8),
-        _ => Request::Vector,
-    };
-    let reply = match i % 6 {
-        0 => Some(0),
-        1 => Some(i % 16),
-        2 | 5 if !timed_out => Some(word),
-        3 | 4 if !timed_out => Some(0),
-        _ => None,
+    let answered = i % 4 != 3;
+    let (request, reply) = match i % 6 {
+        0 => (Request::Init, Some(0)),
+        1 => (Request::Lines, Some(i % 16)),
+        2 => (Request::Read(address), answered.then_some(word)),
+        3 => (Request::Write(address, word), answered.then_some(0)),
+        4 => (
+            Request::WriteByte(address + 1, (word % 256) as u8),
+            answered.then_some(0),
+        ),
+        _ => (Request::Vector, answered.then_some(word)),
     };
     Exchange { request, reply }
 }
 
-fn same_reply(a: Option<u16>, b: Option<u16>) -> bool {
-    match (a, b) {
-        (Some(v), Some(w)) => v == w,
-        (None, None) => true,
-        _ => false,
-    }
-}
-
 // Notes exchanges until one is refused: how many were noted.
 fn fill(recorder: &mut Recorder) -> u16 {
-    for i in 0..1000 {
-        match recorder.note(exchange(i)) {
-            Ok(()) => {}
-            Err(NotNoted::Full) | Err(NotNoted::Unlawful) => return i,
-        }
-    }
-    1000
+    (0..1000)
+        .find(|i| recorder.note(exchange(*i)).is_err())
+        .unwrap_or(1000)
 }
 
 // Asks for the exchanges in turn: how many were answered as they were noted.
 fn ask_again(feed: &mut Feed) -> u16 {
-    for i in 0..1000 {
-        let Exchange { request, reply } = exchange(i);
-        match feed.ask(request) {
-            Ok(answer) if same_reply(answer, reply) => {}
-            _ => return i,
-        }
-    }
-    1000
+    (0..1000)
+        .find(|i| {
+            let Exchange { request, reply } = exchange(*i);
+            feed.ask(request) != Ok(reply)
+        })
+        .unwrap_or(1000)
 }
 
 fn run_recording(rt: &HostRuntime, blocks: u8, header: u8, file: &str) -> io::Result<()> {
@@ -70,9 +52,10 @@ fn run_recording(rt: &HostRuntime, blocks: u8, header: u8, file: &str) -> io::Re
         request: Request::Read(0o177601),
         reply: Some(0),
     };
-    let unlawful = match recorder.note(odd) {
-        Err(NotNoted::Unlawful) => "refused",
-        _ => "noted",
+    let unlawful = if recorder.note(odd) == Err(NotNoted::Unlawful) {
+        "refused"
+    } else {
+        "noted"
     };
     let noted = fill(&mut recorder);
     let count = recorder.count();
@@ -109,10 +92,9 @@ fn run_questions(rt: &HostRuntime) -> io::Result<()> {
         (2097664, 6),
         (2097664, 7),
     ] {
-        let answer = match Recorder::question(size, header) {
-            Ok(()) => 0,
-            Err(refusal) => refusal.number(),
-        };
+        let answer = Recorder::question(size, header)
+            .err()
+            .map_or(0, |refusal| refusal.number());
         println!(rt; "opening over {size} bytes with header {header}: {answer}")?;
     }
     Ok(())

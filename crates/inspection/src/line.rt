@@ -1,18 +1,11 @@
 // The line of a record.
 ghost use Rattle.std.specs.Prelude.{◌≡◌, ◌++◌, IfOk, string_bytes, OnOk};
 ghost use Rattle.capture.specs.Handed.{shown, added_of};
-ghost use Rattle.inspection.specs.Texts.{octal_text, bytes_text, added_text, line_text};
+ghost use Rattle.inspection.specs.Texts.{bytes_text, added_text, line_text};
 
 use crate::fields::{Fields, fields_of, kind_text, mark_text};
 use capture::Record;
 use std::alloc::{AllocError, Global};
-
-// Adds a word in six octal digits.
-fn push_octal(line: &mut String, word: u16) -> Result<(), AllocError>
-    ensures { OnOk result (string_bytes line.new ≡ string_bytes line.old ++ octal_text word) }
-{
-    write!(line, "{word:06o}")
-}
 
 // Adds a space and two digits for each byte.
 fn push_bytes(line: &mut String, bytes: &[u8]) -> Result<(), AllocError>
@@ -48,10 +41,9 @@ pub fn record_line(heap: Global, number: usize, rec: Record) -> Result<String, A
     } = fields_of(rec);
     let kind = kind_text(kind.number());
     let mark = mark_text(answered);
-    let mut line = format!(in heap; "{number}: {kind}, {mark}, address ")?;
-    push_octal(&mut line, address)?;
-    line.push_str(", word ")?;
-    push_octal(&mut line, word)?;
+    let mut line = format!(in heap;
+        "{number}: {kind}, {mark}, address {address:06o}, word {word:06o}"
+    )?;
     push_added(&mut line, rec.added())?;
     Ok(line)
 }
