@@ -32,7 +32,7 @@ fn part_at(i: usize, byte: u8) -> u16
     if i % 2 == 0 {
         u16::from(byte)
     } else {
-        u16::from(byte) * 256
+        u16::from_le_bytes([0, byte])
     }
 }
 

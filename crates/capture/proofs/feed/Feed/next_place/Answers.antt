@@ -4,7 +4,7 @@ use Rattle.std.specs.Simd.{first_chunks}
 use Rattle.capture.specs.Checking.{used_bytes}
 use Rattle.capture.specs.Remaining.{block_at, remains}
 use Rattle.capture.proofs.Walks.{chunk_at}
-use Rattle.capture.proofs.Feeding.{turn, stands, none_left}
+use Rattle.capture.proofs.Feeding.{turn, stands}
 use Rattle.capture.proofs.feed.Feed.next_place.Goals as goal
 
 -- the record bytes of a block, in the words of the code
@@ -27,6 +27,3 @@ loop-block-preserved c =
     let e = part f.bytes.now c.as_chunks.result.0.now b c.used_bytes-bytes.result.now (omega arith) c.as_chunks.ensures.front c.used_bytes-bytes.ensures in
     let t = turn f.bytes.now b c.loop-block.from (remains f.bytes.now f.block f.from) f.whole f.passed (omega (arith, ap length e)) c.loop-block.invariant.same in
     record { short = t.used; same = t.same }
-
-pub returns : goal.returns
-returns c = none_left c.args.self.now c.loop-block.block c.loop-block.from (omega arith) c.loop-block.invariant.same

@@ -1,5 +1,4 @@
-use Rattle.std.proofs.Common.{◌≡◌, ℕ, ◌+◌, ◌/◌, ◌<◌, true, List, length, take, sym, refl, ap, ◌∙◌, arith, rules}
-use native.Mathlib.Nat.{mul-div-le}
+use Rattle.std.proofs.Common.{◌≡◌, ℕ, ◌+◌, ◌<◌, true, List, length, take, sym, refl, ap, ◌∙◌, arith, rules}
 use Rattle.capture.specs.Records.{entry, written}
 use Rattle.capture.specs.Lawful.{writable}
 use Rattle.capture.specs.Exchanges.{record_of, exchange_is_lawful}
@@ -10,7 +9,7 @@ use Rattle.capture.proofs.Rounds.{length-record, writable_since}
 use Rattle.recorder.specs.declared.recorder.Recorder.{Recorder}
 use Rattle.recorder.specs.Recording.{added_by}
 use Rattle.recorder.specs.Noting.{noted}
-use Rattle.recorder.proofs.Packing.{more, More, header_many, added_size}
+use Rattle.recorder.proofs.Packing.{more, More, added_size}
 use Rattle.recorder.proofs.recorder.Recorder.note.Goals as goal
 use Rattle.recorder.proofs.recorder.Recorder.note.Goals.{After-note}
 
@@ -23,14 +22,6 @@ bytes_of_record : (r : Recorder) (e : Exchange) (size : ℕ) (bytes : List ℕ) 
 bytes_of_record r e size bytes h b =
     let s = ap (λ (n : ℕ). take n bytes) h ∙ b in
     record { stamped = s; size = ap length s ∙ (length-record (written 0 (entry (added_by r.header r.number) (record_of e))) ∙ sym (added_size r.header r.number r.allowed)) }
-
-pub note-requires : goal.note-requires
-note-requires c =
-    let s = c.args.self.now in
-    let b = bytes_of_record s c.args.exchange c.record_size-size.result c.record_bytes-bytes.result c.record_size-size.ensures c.record_bytes-bytes.ensures in
-    let n : c.per_block-n.result ≡ 506 / (s.header + 4) = c.per_block-n.ensures in
-    rw (b.size, n)
-    (record { many = header_many s.header s.allowed; fit = mul-div-le 506 (s.header + 4); low = search rules; short = search rules; room = search rules })
 
 grown : (c : goal.After-note)
     → More c.args.self.now.header c.args.self.now.number c.args.self.now.blocks c.args.self.now.sheets.count c.args.self.now.sheets.buffer.now (record_of c.args.exchange) c.note.new.self.buffer.now

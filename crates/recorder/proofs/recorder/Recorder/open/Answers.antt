@@ -1,4 +1,4 @@
-use Rattle.std.proofs.Common.{◌≡◌, ◌/◌, ◌≤◌, true, length, refl, ap, rules}
+use Rattle.std.proofs.Common.{◌≡◌, ◌/◌, ◌≤◌, true, length, ap, rules}
 use Rattle.capture.specs.Lawful.{all_writable}
 use Rattle.recorder.specs.Recording.{header_allowed}
 use Rattle.recorder.proofs.Packing.{new}
@@ -18,10 +18,3 @@ invariant_of-result-2 c =
       sound = ap all_writable m.made;
       stands = m.stands;
     }
-
-pub returns : goal.returns
-returns c =
-    let l : header_allowed c.args.header ≡ true = search rules in
-    let k : length c.args.buffer.now / 512 ≤ 4096 = search rules in
-    let m = new c.args.header c.args.number (length c.args.buffer.now / 512) c.fill_empty.new.buffer l k c.fill_empty.ensures in
-    record { blocks = search rules; header = search rules; number = refl; made = m.made; bytes = m.bytes }
