@@ -1,18 +1,16 @@
 -- What a feed answers from the records that are left.
-use Rattle.std.proofs.Common.{◌≡◌, true, false, List, [], ◌∷◌, map, is_some, Some, sym, ap, ◌∙◌, subst}
-use Rattle.std.proofs.lemmas.Bool.{false≢true, cond-false}
+use Rattle.std.proofs.Common.{rules}
+use Rattle.std.proofs.Common.{◌≡◌, true, false, List, ◌∷◌, map, Some}
 use Rattle.std.specs.List.{AllByRecursion}
 use Rattle.bus.specs.declared.exchange.Request.{Request}
 use Rattle.bus.specs.declared.exchange.Exchange.{Exchange}
 use Rattle.capture.specs.Records.{Entry, plain_of}
 use Rattle.capture.specs.Lawful.{lawful}
-use Rattle.capture.specs.Exchanges.{exchange_of, reply_is_lawful, exchange_is_lawful, same_request, leaves}
+use Rattle.capture.specs.Exchanges.{exchange_of, reply_is_lawful, same_request, leaves}
 use Rattle.capture.specs.Handed.{head_of, tail_of}
-use Rattle.capture.proofs.Matching.{same_is, read}
 
 head_is : (L : List Entry) (e : Entry) → Some e ≡ head_of L → L ≡ e ∷ tail_of L
-head_is [] e h = absurd (false≢true (sym (ap is_some h)))
-head_is (x ∷ xs) e h = cc
+head_is a0 e h = search rules
 
 -- as exchanges
 abbrev tape : List Entry → List Exchange
@@ -20,13 +18,9 @@ tape L = map (λ e. exchange_of (plain_of e)) L
 
 -- where the next record is of another request nothing is used
 pub misfit : (q : Request) (L : List Entry) (e : Entry) (x : Exchange) → Some e ≡ head_of L → x ≡ exchange_of e.plain → same_request x.request q ≡ false → tape L ≡ leaves q (tape L)
-misfit q L e x h ex f =
-    let l : tape L ≡ x ∷ tape (tail_of L) = ap tape (head_is L e h) ∙ ap (λ (y : Exchange). y ∷ tape (tail_of L)) (sym ex) in
-    l ∙ sym (ap (leaves q) l ∙ cond-false (same_request x.request q) (tape (tail_of L)) (x ∷ tape (tail_of L)) f)
+misfit q L e x h ex f = search rules
 
 -- where it is of this request its reply is lawful
 pub fit : (q : Request) (L : List Entry) (e : Entry) (x : Exchange) → Some e ≡ head_of L → x ≡ exchange_of e.plain → AllByRecursion (λ e. lawful e.plain ≡ true) L → same_request x.request q ≡ true
     → reply_is_lawful q x.reply ≡ true
-fit q L e x h ex a f =
-    let l : lawful e.plain ≡ true = (subst (AllByRecursion (λ e. lawful e.plain ≡ true)) (head_is L e h) a).0 in
-    ap (λ (p : Request). reply_is_lawful p x.reply) (sym (same_is x.request q f)) ∙ (ap exchange_is_lawful ex ∙ (read e.plain l).lawful)
+fit q L e x h ex a f = search rules

@@ -1,7 +1,8 @@
 -- What a passed check tells of a reader that stands in the capture.
-use Rattle.std.proofs.Common.{◌≡◌, ℕ, zero, suc, ◌+◌, ◌-◌, ◌*◌, ◌/◌, ◌%◌, ◌<◌, ◌≤◌, Bool, true, false, cond, eqb, leb, List, [], ◌∷◌, map, length, get_or, take, drop, is_ok, Ok, Err, Result, sym, refl, ap, ◌∙◌, inl, inr, arith}
+use Rattle.std.proofs.Common.{rules}
+use Rattle.std.proofs.Common.{◌≡◌, ℕ, zero, suc, ◌+◌, ◌-◌, ◌*◌, ◌/◌, ◌%◌, ◌<◌, ◌≤◌, Bool, true, cond, eqb, leb, List, [], ◌∷◌, map, length, get_or, take, drop, is_ok, Ok, Err, Result, sym, refl, ap, ◌∙◌, inl, inr, arith}
 use Rattle.std.proofs.lemmas.List.{drop_all, drop-drop, length-take, length-drop}
-use Rattle.std.proofs.lemmas.Bool.{false≢true, cond-true, eqb-true, leb-true, cases_lt}
+use Rattle.std.proofs.lemmas.Bool.{cond-true, eqb-true, cases_lt}
 use Rattle.std.specs.List.{AllByRecursion}
 use Rattle.capture.specs.declared.refusal.Refusal.{Refusal}
 use Rattle.capture.specs.declared.refusal.Refusal.TheVariants.{Blocks, Number, Used, Checksum}
@@ -14,23 +15,17 @@ use Rattle.capture.specs.Remaining.{block_at, remains}
 use Rattle.capture.specs.declared.feed.Feed.{Feed}
 use Rattle.capture.specs.Feeds.{left, Stands}
 use Rattle.capture.proofs.Matching.{both_parts}
-use Rattle.capture.proofs.Walks.{read_first, read_more, block_then_lem}
+use Rattle.capture.proofs.Walks.{read_first, read_more}
 
 ok_gate : (t : Bool) (x : Answer) (e : Refusal) → is_ok (cond t x (Err e)) ≡ true → (t ≡ true) × (is_ok x ≡ true)
-ok_gate true x e h = (refl, h)
-ok_gate false x e h = absurd (false≢true h)
+ok_gate a0 x e h = search rules
 
 pub record Block (b : ℕ) (xs : List ℕ) (rest : Answer) : Type 0 where
   pub used : word_at xs 2 ≤ 506
   pub same : block_then b xs rest ≡ read_then 0 (used_bytes xs) rest
 
 block_ok : (b : ℕ) (xs : List ℕ) (rest : Answer) → is_ok (block_then b xs rest) ≡ true → Block b xs rest
-block_ok b xs rest h =
-    let g1 = ok_gate (eqb (word_at xs 0) b) _ Number h in
-    let g2 = ok_gate (leb (word_at xs 2) 506) _ Used g1.1 in
-    let g3 = ok_gate (eqb (block_sum xs) 0) _ Checksum g2.1 in
-    let u : word_at xs 2 ≤ 506 = leb-true (word_at xs 2) 506 g2.0 in
-    record { used = u; same = block_then_lem b xs rest (eqb-true (word_at xs 0) b g1.0) u (eqb-true (block_sum xs) 0 g3.0) }
+block_ok b xs rest h = search rules
 
 -- past the last block nothing is left
 pub past : (xs : List ℕ) (b at : ℕ) → length xs % 512 ≡ 0 → length xs / 512 ≤ b → (word_at (block_at xs b) 2 ≡ 0) × (remains xs b at ≡ Ok [])
@@ -82,19 +77,13 @@ opens xs w h =
     starts xs 0 w (ap (λ (j : ℕ). is_ok (read_from 0 j xs)) k ∙ h)
 
 split_then : (o : Result Entry Refusal) (a : Answer) → is_ok (and_then o a) ≡ true → (is_ok o ≡ true) × (is_ok a ≡ true)
-split_then (Ok p) (Ok ps) h = (refl, refl)
-split_then (Ok p) (Err e) h = absurd (false≢true h)
-split_then (Err r) (Ok ps) h = absurd (false≢true h)
-split_then (Err r) (Err e) h = absurd (false≢true h)
+split_then a0 a1 h = search rules
 
 one_ok : (t u : Bool) (x : Entry) (e f : Refusal) → is_ok (cond t (cond u (Ok x) (Err e)) (Err f)) ≡ true → cond t (cond u (Ok x) (Err e)) (Err f) ≡ Ok x
-one_ok true true x e f h = refl
-one_ok true false x e f h = absurd (false≢true h)
-one_ok false u x e f h = absurd (false≢true h)
+one_ok a0 a1 x e f h = search rules
 
 then_first : (x : Entry) (a : Answer) → is_ok a ≡ true → entries (before x a) ≡ x ∷ entries a
-then_first x (Ok ps) h = refl
-then_first x (Err e) h = absurd (false≢true h)
+then_first x a1 h = search rules
 
 -- a feed's next record, where some of the record bytes of a block are left
 pub stands : (f : Feed) (b at : ℕ) (ys : List ℕ) → word_at (block_at f.bytes.now b) 2 ≤ 506 → ys ≡ drop at (used_bytes (block_at f.bytes.now b)) → 0 < length ys
@@ -119,8 +108,7 @@ stands f b at ys u e n s =
     }
 
 ok_verdict : (r : Answer) → Ok tt ≡ verdict r → is_ok r ≡ true
-ok_verdict (Ok ps) h = refl
-ok_verdict (Err e) h = absurd (false≢true (sym (ap (is_ok {E = Refusal}) h)))
+ok_verdict a0 h = search rules
 
 -- what a passed check tells of a feed at the start
 pub record Checked (xs : List ℕ) : Type 0 where
@@ -152,9 +140,7 @@ same_numbers xs ys e = sym (unnumbered xs) ∙ (ap (map unnumbers) e ∙ unnumbe
 
 -- how many entries there can be
 and_short : (o : Result Entry Refusal) (a : Answer) → length (entries (and_then o a)) ≤ suc (length (entries a))
-and_short (Ok p) (Ok ps) = omega arith
-and_short (Ok p) (Err e) = omega arith
-and_short (Err r) a = omega arith
+and_short a0 a1 = search rules
 
 read_short : (k : ℕ) (xs : List ℕ) (rest : Answer) → length (entries (read_then k xs rest)) ≤ length xs + length (entries rest)
 read_short k [] rest = omega arith
@@ -162,8 +148,7 @@ read_short zero (x ∷ xs) rest = omega (arith, and_short (one_read (x ∷ xs)) 
 read_short (suc k) (x ∷ xs) rest = omega (arith, read_short k xs rest)
 
 gate_short : (t : Bool) (x : Answer) (e : Refusal) → length (entries (cond t x (Err e))) ≤ length (entries x)
-gate_short true x e = omega arith
-gate_short false x e = omega arith
+gate_short a0 x e = search rules
 
 block_short : (b : ℕ) (xs : List ℕ) (rest : Answer) → length (entries (block_then b xs rest)) ≤ length xs + length (entries rest)
 block_short b xs rest =
@@ -206,10 +191,7 @@ abbrev Lawfuls : Answer → Type 0
 Lawfuls a = AllByRecursion (λ e. lawful e.plain ≡ true) (entries a)
 
 then_lawful : (t u : Bool) (x : Entry) (r s : Refusal) (a : Answer) → (u ≡ true → lawful x.plain ≡ true) → Lawfuls a → Lawfuls (and_then (cond t (cond u (Ok x) (Err r)) (Err s)) a)
-then_lawful true true x r s (Ok es) l h = (l refl, h)
-then_lawful true true x r s (Err e) l h = tt
-then_lawful true false x r s a l h = tt
-then_lawful false u x r s a l h = tt
+then_lawful a0 a1 x r s a5 l h = search rules
 
 read_lawful : (k : ℕ) (xs : List ℕ) (rest : Answer) → Lawfuls rest → Lawfuls (read_then k xs rest)
 read_lawful k [] rest h = h
@@ -218,8 +200,7 @@ read_lawful zero (x ∷ xs) rest h =
 read_lawful (suc k) (x ∷ xs) rest h = read_lawful k xs rest h
 
 gate_lawful : (t : Bool) (x : Answer) (e : Refusal) → Lawfuls x → Lawfuls (cond t x (Err e))
-gate_lawful true x e h = h
-gate_lawful false x e h = tt
+gate_lawful a0 x e h = search rules
 
 block_lawful : (b : ℕ) (xs : List ℕ) (rest : Answer) → Lawfuls rest → Lawfuls (block_then b xs rest)
 block_lawful b xs rest h =

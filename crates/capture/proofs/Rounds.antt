@@ -1,11 +1,11 @@
 -- What is laid out is read back.
-use Rattle.std.proofs.Common.{◌≡◌, ℕ, zero, suc, ◌+◌, ◌-◌, ◌*◌, ◌/◌, ◌%◌, ◌<◌, ◌≤◌, true, cond, ltb, leb, List, [], ◌∷◌, ◌++◌, map, length, get_or, take, drop, Ok, Err, Result, sym, refl, ap, ◌∙◌, subst, mul-le-mul_left, mul-zero, mul-suc, arith, length-append, length-drop}
+use Rattle.std.proofs.Common.{rules}
+use Rattle.std.proofs.Common.{◌≡◌, ℕ, zero, suc, ◌+◌, ◌-◌, ◌*◌, ◌/◌, ◌%◌, ◌<◌, ◌≤◌, true, cond, leb, List, [], ◌∷◌, ◌++◌, map, length, get_or, take, drop, Ok, Err, Result, sym, refl, ap, ◌∙◌, subst, mul-le-mul_left, mul-zero, mul-suc, arith, length-append, length-drop}
 use native.Mathlib.Nat.{min-le_left, mul-div-le}
 use lib.ListN.{length-replicate}
 use Rattle.std.proofs.lemmas.List.{drop_at, take_at, get_or_at, append_assoc, length_push, length-take, map-append, take-map, drop-map, take-append-drop, nil_from_length, length-map}
 use Rattle.std.proofs.ByRecursion.{All-take, All-drop}
-use Rattle.std.proofs.lemmas.Bool.{cond-true, le-leb, ltb-true, lt-ltb}
-use Rattle.std.proofs.lemmas.Bool.Decides.{nat_tests}
+use Rattle.std.proofs.lemmas.Bool.{cond-true, le-leb}
 use Rattle.std.specs.List.{AllByRecursion}
 use Rattle.capture.specs.declared.refusal.Refusal.{Refusal}
 use Rattle.capture.specs.declared.refusal.Refusal.TheVariants.{Length, Fields}
@@ -31,19 +31,17 @@ word_at_lem p ys w n e h =
     omega (arith, lo, hi)
 
 low_address : (p : Plain) → lawful p ≡ true → p.address < 65536
-low_address p e = grind (arith, nat_tests)
+low_address p e = search rules
 
 pub record Sound (p : Plain) : Type 0 where
   pub lawful : lawful p ≡ true
   pub word : p.word < 65536
 
 pub sound : (p : Plain) → writable p ≡ true → Sound p
-sound p e =
-    let b = both_parts (lawful p) (ltb p.word 65536) e in
-    record { lawful = b.0; word = ltb-true p.word 65536 b.1 }
+sound p e = search rules
 
 pub writable_since : (p : Plain) → lawful p ≡ true → p.word < 65536 → writable p ≡ true
-writable_since p l w = both_true (lawful p) (ltb p.word 65536) l (lt-ltb p.word 65536 w)
+writable_since p l w = search rules
 
 -- a record's bytes, read
 first_written : (s : ℕ) (x : List ℕ) (p : Plain) (rest : List ℕ) → p.address < 65536 → p.word < 65536 → first_plain (record_bytes (written s (entry x p)) ++ rest) ≡ p
@@ -114,7 +112,7 @@ body_of_lem b body unused m e = ap (λ (xs : List ℕ). take m xs) (append_assoc
 
 number_of : (b : ℕ) (body unused : List ℕ) → b < 65536 → word_at (sealed (unsealed b body unused)) 0 ≡ b
 unfolding sealed
-number_of b body unused h = word_at_lem [] [] b 0 refl h
+number_of b body unused h = search rules
 
 used_of : (b : ℕ) (body unused : List ℕ) → length body ≤ 506 → word_at (sealed (unsealed b body unused)) 2 ≡ length body
 unfolding sealed

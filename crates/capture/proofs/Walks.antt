@@ -1,10 +1,10 @@
 -- The check, one record and one block at a time.
-use Rattle.std.proofs.Common.{◌≡◌, ℕ, zero, suc, ◌+◌, ◌-◌, ◌*◌, ◌/◌, ◌%◌, ◌<◌, ◌≤◌, Bool, true, false, cond, eqb, ltb, leb, List, [], ◌∷◌, length, get_or, take, drop, Ok, Err, Result, sym, refl, ap, ◌∙◌, arith}
+use Rattle.std.proofs.Common.{rules}
+use Rattle.std.proofs.Common.{◌≡◌, ℕ, zero, suc, ◌+◌, ◌-◌, ◌*◌, ◌/◌, ◌%◌, ◌<◌, ◌≤◌, Bool, true, cond, eqb, leb, List, [], ◌∷◌, length, get_or, take, drop, Ok, Err, Result, sym, refl, ap, ◌∙◌, arith}
 use Rattle.std.proofs.lemmas.List.{drop-drop}
-use Rattle.std.proofs.lemmas.Bool.{cond-true, eq-eqb, le-leb, lt-ltb}
 use Rattle.std.specs.Simd.{first_chunks}
 use Rattle.capture.specs.declared.refusal.Refusal.{Refusal}
-use Rattle.capture.specs.declared.refusal.Refusal.TheVariants.{Blocks, Number, Used, Checksum}
+use Rattle.capture.specs.declared.refusal.Refusal.TheVariants.{Number, Used, Checksum}
 use Rattle.capture.specs.Words.{word_at, both}
 use Rattle.capture.specs.Checksum.{block_sum}
 use Rattle.capture.specs.Records.{Entry}
@@ -29,12 +29,10 @@ seq (Ok u) r = r
 seq (Err e) r = Err e
 
 verdict_before : (p : Entry) (a : Answer) → verdict (before p a) ≡ verdict a
-verdict_before p (Ok ps) = refl
-verdict_before p (Err e) = refl
+verdict_before p a1 = search rules
 
 verdict_then : (o : Result Entry Refusal) (a : Answer) → verdict (and_then o a) ≡ seq (verdict o) (verdict a)
-verdict_then (Ok p) a = verdict_before p a
-verdict_then (Err e) a = refl
+verdict_then a0 a = search rules
 
 -- the verdict on records is that on the first, and then that on the others
 pub verdict_first : (xs : List ℕ) (rest : Answer) → 0 < length xs
@@ -51,8 +49,7 @@ read_seq zero (x ∷ xs) rest = seq_then (one_read (x ∷ xs)) (read_then (x + 3
 read_seq (suc k) (x ∷ xs) rest = read_seq k xs rest
 
 gate : (t : Bool) (x y : Answer) (e : Refusal) (v : Result Unit Refusal) → verdict x ≡ seq (verdict y) v → verdict (cond t x (Err e)) ≡ seq (verdict (cond t y (Err e))) v
-gate true x y e v h = h
-gate false x y e v h = refl
+gate a0 x y e v h = search rules
 
 pub block_seq : (b : ℕ) (xs : List ℕ) (rest : Answer) → verdict (block_then b xs rest) ≡ seq (block_alone b xs) (verdict rest)
 block_seq b xs rest =
@@ -85,28 +82,22 @@ verdict_more xs k b h =
     ∙ (block_seq b (block_at xs b) rest ∙ ap (λ (ys : List ℕ). seq (block_alone b ys) (verdict rest)) (sym (chunk_at k b xs h)))
 
 pub both_true : (x y : Bool) → x ≡ true → y ≡ true → both x y ≡ true
-both_true x y a b = cond-true x y false a ∙ b
+both_true x y a b = search rules
 
 pub whole_since : (len : ℕ) → len % 512 ≡ 0 → 0 < len → len ≤ 2097152 → whole_blocks len ≡ true
-whole_since len a b c = both_true (eqb (len % 512) 0) _ (eq-eqb (len % 512) 0 a) (both_true (ltb 0 len) _ (lt-ltb 0 len b) (le-leb len 2097152 c))
+whole_since len a b c = search rules
 
 pub read_whole : (xs : List ℕ) → length xs % 512 ≡ 0 → 0 < length xs → length xs ≤ 2097152 → read_capture xs ≡ read_from 0 (length xs / 512) xs
-read_whole xs a b c = cond-true (whole_blocks (length xs)) _ (Err Blocks) (whole_since (length xs) a b c)
+read_whole xs a b c = search rules
 
 pub block_then_lem : (b : ℕ) (xs : List ℕ) (rest : Answer) → word_at xs 0 ≡ b → word_at xs 2 ≤ 506 → block_sum xs ≡ 0
     → block_then b xs rest ≡ read_then 0 (used_bytes xs) rest
-block_then_lem b xs rest e1 e2 e3 =
-    cond-true (eqb (word_at xs 0) b) _ (Err Number) (eq-eqb (word_at xs 0) b e1)
-    ∙ (cond-true (leb (word_at xs 2) 506) _ (Err Used) (le-leb (word_at xs 2) 506 e2)
-    ∙ cond-true (eqb (block_sum xs) 0) _ (Err Checksum) (eq-eqb (block_sum xs) 0 e3))
+block_then_lem b xs rest e1 e2 e3 = search rules
 
 gates : (t u v : Bool) (x : Answer)
     → verdict (cond t (cond u (cond v x (Err Checksum)) (Err Used)) (Err Number)) ≡ seq (cond t (cond u (cond v (Ok tt) (Err Checksum)) (Err Used)) (Err Number)) (verdict x)
-gates true true true x = refl
-gates true true false x = refl
-gates true false v x = refl
-gates false u v x = refl
+gates a0 a1 a2 x = search rules
 
 -- the questions before the records, and then the records
 pub head_then : (b : ℕ) (xs : List ℕ) → block_alone b xs ≡ seq (head_answer b (word_at xs 0) (word_at xs 2) (block_sum xs)) (verdict (read_then 0 (used_bytes xs) (Ok [])))
-head_then b xs = gates (eqb (word_at xs 0) b) (leb (word_at xs 2) 506) (eqb (block_sum xs) 0) (read_then 0 (used_bytes xs) (Ok []))
+head_then b xs = search rules

@@ -1,7 +1,7 @@
 -- Where a refusal is found, one block and one record at a time.
+use Rattle.std.proofs.Common.{rules}
 use Rattle.std.proofs.Common.{◌≡◌, ℕ, zero, suc, ◌+◌, ◌-◌, ◌*◌, ◌/◌, ◌<◌, ◌≤◌, Bool, true, false, cond, List, [], ◌∷◌, length, get_or, take, drop, is_err, Result, sym, refl, ap, ◌∙◌, arith}
 use Rattle.std.proofs.lemmas.List.{drop-drop, get_or-take}
-use Rattle.std.proofs.lemmas.Bool.{cond-true, cond-false}
 use Rattle.std.specs.Simd.{first_chunks}
 use Rattle.capture.specs.declared.refusal.Refusal.{Refusal}
 use Rattle.capture.specs.Checking.{one_read, verdict, block_verdict}
@@ -42,7 +42,7 @@ asked xs blocks k b t r h m e f g =
 
 -- a refused one is the first; after one that passes the search goes on
 pub stop : (t : Bool) (here there all : ℕ) → t ≡ true → cond t here there ≡ all → here ≡ all
-stop t here there all h e = sym (cond-true t here there h) ∙ e
+stop t here there all h e = search rules
 
 pub go_on : (t : Bool) (here there all : ℕ) → t ≡ false → cond t here there ≡ all → there ≡ all
-go_on t here there all h e = sym (cond-false t here there h) ∙ e
+go_on t here there all h e = search rules

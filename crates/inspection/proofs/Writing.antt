@@ -1,9 +1,10 @@
 -- A line as it grows.
-use Rattle.std.proofs.Common.{◌≡◌, ℕ, suc, ◌+◌, ◌-◌, ◌/◌, ◌%◌, ◌^◌, ◌<◌, ◌≤◌, true, false, Option, inl, inr, eqb, ltb, Some, arith, List, [], ◌∷◌, ◌++◌, length, get_or, take, sym, ap, ◌∙◌}
+use Rattle.std.proofs.Common.{rules}
+use Rattle.std.proofs.Common.{◌≡◌, ℕ, suc, ◌+◌, ◌-◌, ◌/◌, ◌%◌, ◌^◌, ◌<◌, ◌≤◌, true, false, Option, inl, inr, Some, arith, List, [], ◌∷◌, ◌++◌, length, get_or, take, sym, ap, ◌∙◌}
 use Rattle.std.proofs.lemmas.List.{take_more, append_assoc, append-nil}
-use Rattle.std.proofs.lemmas.Bool.{cond-true, cond-false, cases_lt, eq-eqb, ne_eqb, lt-ltb}
+use Rattle.std.proofs.lemmas.Bool.{cases_lt}
 use Rattle.std.proofs.lemmas.Fmt.{hex_byte}
-use Rattle.std.specs.Fmt.{digits_onto, digits, digit_glyph, padded_integral, char_count, format_spec, digits_output, styled_digits_output, ◌++?◌}
+use Rattle.std.specs.Fmt.{digits_onto, digits, padded_integral, char_count, format_spec, digits_output, styled_digits_output, ◌++?◌}
 use Rattle.std.specs.Option.{option_map}
 use Rattle.inspection.specs.Texts.{octal_text, hex_text, bytes_text}
 
@@ -23,17 +24,10 @@ digits_more base xs s0 s1 piece i h e f g =
 
 -- the digits of a number in base 8, the last ones in acc
 octal_step : (k n : ℕ) (acc : List ℕ) → 8 ≤ n → digits_onto (suc k) 8 false n acc ≡ digits_onto k 8 false (n / 8) ((48 + n % 8) ∷ acc)
-octal_step k n acc h =
-    let z : eqb (n / 8) 0 ≡ false = ne_eqb (n / 8) 0 (λ e. omega (arith, e)) in
-    let d : digit_glyph false (n % 8) ≡ 48 + n % 8 = cond-true (ltb (n % 8) 10) (48 + n % 8) (87 + n % 8) (lt-ltb (n % 8) 10 (omega arith)) in
-    cond-false (eqb (n / 8) 0) (digit_glyph false (n % 8) ∷ acc) (digits_onto k 8 false (n / 8) (digit_glyph false (n % 8) ∷ acc)) z
-    ∙ ap (λ (x : ℕ). digits_onto k 8 false (n / 8) (x ∷ acc)) d
+octal_step k n acc h = search rules
 
 octal_last : (k n : ℕ) (acc : List ℕ) → n < 8 → digits_onto (suc k) 8 false n acc ≡ (48 + n % 8) ∷ acc
-octal_last k n acc h =
-    let z : eqb (n / 8) 0 ≡ true = eq-eqb (n / 8) 0 (omega arith) in
-    let d : digit_glyph false (n % 8) ≡ 48 + n % 8 = cond-true (ltb (n % 8) 10) (48 + n % 8) (87 + n % 8) (lt-ltb (n % 8) 10 (omega arith)) in
-    cond-true (eqb (n / 8) 0) (digit_glyph false (n % 8) ∷ acc) (digits_onto k 8 false (n / 8) (digit_glyph false (n % 8) ∷ acc)) z ∙ ap (λ (x : ℕ). x ∷ acc) d
+octal_last k n acc h = search rules
 
 -- what is written of a word
 six : (a b c d e f a' b' c' d' e' f' : ℕ) → a ≡ a' → b ≡ b' → c ≡ c' → d ≡ d' → e ≡ e' → f ≡ f' → a ∷ b ∷ c ∷ d ∷ e ∷ f ∷ [] ≡ a' ∷ b' ∷ c' ∷ d' ∷ e' ∷ f' ∷ []

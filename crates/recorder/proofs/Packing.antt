@@ -1,11 +1,12 @@
 -- Records packed into blocks, one after another.
-use Rattle.std.proofs.Common.{◌≡◌, ℕ, zero, suc, ◌+◌, ◌-◌, ◌*◌, ◌/◌, ◌%◌, ◌<◌, ◌≤◌, true, cond, eqb, ltb, List, [], ◌∷◌, ◌++◌, map, length, take, drop, Ok, Err, sym, refl, ap, ◌∙◌, subst, inl, inr, add-zero, mod-lt, mod-eq_of_lt, mul-le-mul_left, mul-zero, zero-add, mul-one, mul-suc, mul-add, add-one, arith, lit<, length-append, length-drop}
-use native.Mathlib.Nat.{mul-div-le, add-mod_right, div-eq_of_lt, add-div_right}
+use Rattle.std.proofs.Common.{rules}
+use Rattle.std.proofs.Common.{◌≡◌, ℕ, zero, suc, ◌+◌, ◌-◌, ◌*◌, ◌/◌, ◌%◌, ◌<◌, ◌≤◌, true, cond, ltb, List, [], ◌∷◌, ◌++◌, map, length, take, drop, Ok, Err, sym, refl, ap, ◌∙◌, subst, inl, inr, add-zero, mod-eq_of_lt, mul-zero, zero-add, mul-suc, add-one, arith, length-append, length-drop}
+use native.Mathlib.Nat.{add-mod_right, div-eq_of_lt, add-div_right}
 use lib.Seq.{take-append-add, take-nil}
 use borrow.Rule.Slice.PartMut.{put_mid}
 use Rattle.std.proofs.lemmas.List.{take_at, drop_at, append_assoc, append-nil, take_all, drop_all, drop-drop, drop-take, take-take, take-append-le, drop-append-le, length_push, map_push, length-map, nil_from_length}
 use Rattle.std.proofs.ByRecursion.{All-drop}
-use Rattle.std.proofs.lemmas.Bool.{cases_lt, cases_Bool, eqb-true, cond-true, cond-false, lt-ltb, le-ltb}
+use Rattle.std.proofs.lemmas.Bool.{cases_lt, cond-true, cond-false, lt-ltb, le-ltb}
 use Rattle.capture.specs.declared.refusal.Refusal.TheVariants.{Blocks}
 use Rattle.capture.specs.Records.{Plain, Entry, entry, plain_of, written}
 use Rattle.capture.specs.Lawful.{writable, all_writable}
@@ -134,7 +135,7 @@ empty_more b (suc k) =
     ∙ ap (λ (j : ℕ). (block_bytes b [] ++ empty_blocks (b + 1) k) ++ block_bytes j []) e)
 
 pub place_fits : (size n c : ℕ) → 0 < n → size * n ≤ 506 → size * (c % n) + size ≤ 506
-place_fits size n c hn hs = omega (arith, mul-le-mul_left {m = c % n + 1} {n = n} size (omega (arith, mod-lt c hn)), mul-add size (c % n) 1, mul-one size)
+place_fits size n c hn hs = search rules
 
 pub noted_packed : (size n : ℕ) → 0 < n → size * n ≤ 506 → (k : ℕ) (recs : List (List ℕ)) (rec : List ℕ)
     → Sized size recs → length rec ≡ size → length recs < n * k
@@ -184,21 +185,17 @@ fill_more b s cur new ec en =
 
 -- a header that is written is 4 or 6
 headers : (P : ℕ → Type 0) (h : ℕ) → header_allowed h ≡ true → P 4 → P 6 → P h
-headers P h l four six =
-    elim (cases_Bool (eqb h 4)) [
-      | inl t ↦ subst P (sym (eqb-true h 4 t)) four
-      | inr f ↦ subst P (sym (eqb-true h 6 (sym (cond-false (eqb h 4) true (eqb h 6) f) ∙ l))) six
-    ]
+headers P h l four six = search rules
 
 pub header_many : (h : ℕ) → header_allowed h ≡ true → 0 < 506 / (h + 4)
-header_many h l = headers (λ x. 0 < 506 / (x + 4)) h l (lit< tt) (lit< tt)
+header_many h l = search rules
 
 -- a record's size, by its header and by what that adds
 pub added_size : (h number : ℕ) → header_allowed h ≡ true → h + 4 ≡ 8 + length (added_by h number)
-added_size h number l = headers (λ x. x + 4 ≡ 8 + length (added_by x number)) h l refl refl
+added_size h number l = search rules
 
 added_short : (h number : ℕ) → header_allowed h ≡ true → length (added_by h number) ≤ 28
-added_short h number l = headers (λ x. length (added_by x number) ≤ 28) h l (omega arith) (omega arith)
+added_short h number l = search rules
 
 plains : (x : List ℕ) (ps : List Plain) → map plain_of (map (entry x) ps) ≡ ps
 plains x [] = refl
@@ -212,10 +209,10 @@ writable_push (q ∷ qs) p a w =
 
 -- as many records to a block as the header says
 per_block_lem : (h number : ℕ) → header_allowed h ≡ true → 506 / (h + 4) ≡ per_block (added_by h number)
-per_block_lem h number l = ap (λ (m : ℕ). 506 / m) (added_size h number l)
+per_block_lem h number l = search rules
 
 laid_fit : (h number : ℕ) → (8 + length (added_by h number)) * per_block (added_by h number) ≤ 506
-laid_fit h number = mul-div-le 506 (8 + length (added_by h number))
+laid_fit h number = search rules
 
 laid_read : (h number k : ℕ) (ps : List Plain) → header_allowed h ≡ true → k ≤ 4096 → length ps ≤ places h k → all_writable ps ≡ true
     → read_from 0 k (laid h number k ps) ≡ Ok (map (entry (added_by h number)) ps)
