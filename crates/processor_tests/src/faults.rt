@@ -27,24 +27,16 @@ fn ended(
     (bench.processor, last)
 }
 
+// A constant cannot call `default`.
 const SILENT: Stuck = Stuck {
     virq: false,
     unplugged: false,
 };
 
 const UNPLUGGED: Stuck = Stuck {
-    virq: false,
     unplugged: true,
+    ..SILENT
 };
-
-fn life_letter(life: Life) -> char {
-    match life {
-        Life::Running => 'r',
-        Life::Halted => 'h',
-        Life::Dead => 'd',
-        Life::Ended => 'e',
-    }
-}
 
 #[test]
 fn time_outs_enter_4(rt: HostRuntime) {
@@ -71,11 +63,11 @@ fn time_outs_while_entering_kill(rt: HostRuntime) {
     // JSR with SP at 0: its push times out on the page at 177776, and so does the first of entering 4
     let (p, last) = ended(SILENT, (START, 0), &[0o5006, 0o4737, 0o3000], &[], 2);
     assert_eq!(rt; (shown(&p), last), ([0, 0, 0o177774, 0o1006, 4], 'D'));
-    assert_eq!(rt; life_letter(p.life), 'd');
+    assert!(rt; p.life == Life::Dead);
     // the vector request times out
     let side = Stuck {
         virq: true,
-        unplugged: false,
+        ..SILENT
     };
     let (p, last) = ended(side, (START, 0), &[0o240], &[], 1);
     assert_eq!(rt; (shown(&p), last), ([0, 0, 0o1000, 0o1000, 0], 'D'));
@@ -87,8 +79,10 @@ fn losses_leave_the_processor(rt: HostRuntime) {
     let program = [0o12701, 0o177600, 0o12100];
     let (before, _) = ended(UNPLUGGED, (START, 0), &program, &[], 1);
     let (p, last) = ended(UNPLUGGED, (START, 0), &program, &[], 2);
-    let mut same = before;
-    same.life = Life::Ended;
+    let ended = Processor {
+        life: Life::Ended,
+        ..before
+    };
     assert_eq!(rt; last, 'X');
-    assert!(rt; p == same);
+    assert!(rt; p == ended);
 }

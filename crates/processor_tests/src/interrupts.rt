@@ -11,24 +11,18 @@ const ALL: LineBits = LineBits {
 };
 
 const IRQ2: LineBits = LineBits {
-    aclo: false,
     irq2: true,
-    irq3: false,
-    virq: false,
+    ..QUIET
 };
 
 const IRQ3: LineBits = LineBits {
-    aclo: false,
-    irq2: false,
     irq3: true,
-    virq: false,
+    ..QUIET
 };
 
 const VIRQ: LineBits = LineBits {
-    aclo: false,
-    irq2: false,
-    irq3: false,
     virq: true,
+    ..QUIET
 };
 
 // Sets the lines and makes a step: PC after it.
@@ -50,13 +44,7 @@ fn entered(program: &[u16], psw: u16, first: u8, lines: [LineBits; 4]) -> [u16; 
     place(&mut board, program);
     put(&mut board, &[(0o2100, 0o240), (0o2102, 0o240)]);
     let _ = go(&mut bench, &mut board, &mut panel, (START, psw), first);
-    let [a, b, c, d] = lines;
-    [
-        after(&mut bench, &mut board, &mut panel, a),
-        after(&mut bench, &mut board, &mut panel, b),
-        after(&mut bench, &mut board, &mut panel, c),
-        after(&mut bench, &mut board, &mut panel, d),
-    ]
+    lines.map(|lines| after(&mut bench, &mut board, &mut panel, lines))
 }
 
 // All four at once: ACLO, IRQ2, IRQ3, then VIRQ by its vector, low bits cleared.

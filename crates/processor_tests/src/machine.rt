@@ -7,6 +7,7 @@ use processor::{Answer, Bench, Job, perform};
 // Programs start here, with SP just below them.
 pub(crate) const START: u16 = 0o1000;
 
+// No line is active; a constant cannot call `default`.
 pub(crate) const QUIET: LineBits = LineBits {
     aclo: false,
     irq2: false,
@@ -14,19 +15,8 @@ pub(crate) const QUIET: LineBits = LineBits {
     virq: false,
 };
 
-// Vectors lead to 2000 and their own number, with PSW 0.
-const VECTORS: [(u16, u16); 10] = [
-    (0o4, 0o2004),
-    (0o10, 0o2010),
-    (0o14, 0o2014),
-    (0o20, 0o2020),
-    (0o24, 0o2024),
-    (0o30, 0o2030),
-    (0o34, 0o2034),
-    (0o60, 0o2060),
-    (0o100, 0o2100),
-    (0o270, 0o2270),
-];
+// The vectors, which lead to 2000 and their own number, with PSW 0.
+const VECTORS: [u16; 10] = [0o4, 0o10, 0o14, 0o20, 0o24, 0o30, 0o34, 0o60, 0o100, 0o270];
 
 // G went on, E entered a vector, W waiting, H halted, D dead, I idle, X the side was gone.
 pub(crate) fn letter(answer: Result<Answer, Gone>) -> char {
@@ -50,10 +40,8 @@ pub(crate) fn put<B: Board>(board: &mut B, words: &[(u16, u16)]) {
 
 // Writes a program at its place.
 pub(crate) fn place<B: Board>(board: &mut B, program: &[u16]) {
-    let mut at = START;
-    for word in program {
+    for (at, word) in (START..).step_by(2).zip(program) {
         let _ = board.write(at, *word);
-        at = at.wrapping_add(2);
     }
 }
 
@@ -70,7 +58,7 @@ pub(crate) fn go<B: Board, C: Cabinet>(
     start: (u16, u16),
     steps: u8,
 ) -> char {
-    put(board, &VECTORS);
+    put(board, &VECTORS.map(|vector| (vector, 0o2000 | vector)));
     let mut last = letter(perform(bench, board, side, Job::Restart(start.0, start.1)));
     bench.processor.set_register(Register::Sp, START);
     for _ in 0..steps {

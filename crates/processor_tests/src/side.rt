@@ -18,9 +18,10 @@ impl Cabinet for Stuck {
 
     fn ask(&mut self, request: Request) -> Result<Option<u16>, Gone> {
         match request {
-            Request::Lines => { if self.virq { Ok(Some(8)) } else { Ok(Some(0)) } }
+            Request::Lines => Ok(Some(8 * u16::from(self.virq))),
             Request::Init => Ok(Some(0)),
-            _ => { if self.unplugged { Err(Gone) } else { Ok(None) } }
+            _ if self.unplugged => Err(Gone),
+            _ => Ok(None),
         }
     }
 }
