@@ -1,6 +1,7 @@
 -- The agreement of replay and recording, over bytes.
 use Rattle.std.proofs.Common.{◌≡◌, ℕ, zero, suc, ◌+◌, ◌*◌, ◌/◌, ◌<◌, ◌≤◌, Bool, true, false, cond, eqb, List, [], ◌∷◌, map, length, get_or, take, Some, None, Ok, Err, Option, Result, sym, refl, ap, ◌∙◌, subst, arith, lit≤}
 use Rattle.std.proofs.lemmas.Bool.{leb-true, and_parts, false≢true}
+use Rattle.std.proofs.lemmas.List.{length-map, take-map, length-take-le, get_or-take, same_lists}
 use Rattle.std.proofs.lemmas.Bool.Decides.{nat_tests as ways}
 use Rattle.bus.specs.declared.exchange.Request.{Request}
 use Rattle.bus.specs.declared.exchange.Request.TheVariants.{Read, Write, WriteByte, Lines, Vector, Init}
@@ -134,40 +135,15 @@ read_back x (e ∷ es) h =
     let i = read_back x es p.1 in
     λ j. k.back j ∷ i j
 
-length-map : {A B : Type 0} (f : A → B) (xs : List A) → length (map f xs) ≡ length xs
-length-map f [] = refl
-length-map f (x ∷ xs) = ap suc (length-map f xs)
-
 -- 3. Captures with equal records.
 tape_is : (es : List Entry) → tape_of es ≡ map exchange_of (map plain_of es)
 tape_is [] = refl
 tape_is (e ∷ es) = ap (λ t. exchange_of (plain_of e) ∷ t) (tape_is es)
 
-take-map : {A B : Type 0} (f : A → B) (k : ℕ) (xs : List A) → take k (map f xs) ≡ map f (take k xs)
-take-map f zero xs = refl
-take-map f (suc k) [] = refl
-take-map f (suc k) (x ∷ xs) = ap (λ t. f x ∷ t) (take-map f k xs)
-
-suc_lt : (i m : ℕ) → i < m → suc i < suc m
-suc_lt i m h = omega arith
-
 same_front : (m : ℕ) (s t : List Plain) → m ≤ length s → m ≤ length t → ((i : ℕ) (d : Plain) → i < m → get_or s i d ≡ get_or t i d) → take m s ≡ take m t
-same_front zero s t a b h = refl
-same_front (suc m) [] t a b h = absurd (omega arith)
-same_front (suc m) (x ∷ s) [] a b h = absurd (omega arith)
-same_front (suc m) (x ∷ s) (y ∷ t) a b h =
-    let e : x ≡ y = h 0 x (omega arith) in
-    let i : take m s ≡ take m t = same_front m s t (omega arith) (omega arith) (λ i d l. h (suc i) d (suc_lt i m l)) in
-    λ j. e j ∷ i j
-
-all_taken : (s : List Plain) → take (length s) s ≡ s
-all_taken [] = refl
-all_taken (x ∷ s) = ap (λ r. x ∷ r) (all_taken s)
-
-same_all : (s t : List Plain) → length s ≡ length t → ((i : ℕ) (d : Plain) → i < length s → get_or s i d ≡ get_or t i d) → s ≡ t
-same_all s t l h =
-    let P : ℕ → Type 0 = λ n. take (length s) s ≡ take n t in
-    sym (all_taken s) ∙ (subst P l (same_front (length s) s t (omega arith) (omega (arith, l)) h) ∙ all_taken t)
+same_front m s t a b h =
+    same_lists (take m s) (take m t) (length-take-le m s a ∙ sym (length-take-le m t b))
+    (λ i d l. let k : i < m = omega (arith, l, length-take-le m s a) in get_or-take m s i d k ∙ (h i d k ∙ sym (get_or-take m t i d k)))
 
 pub agreement : Agreement
 agreement = record {
@@ -178,13 +154,13 @@ agreement = record {
       let size = added_size h number allowed in
       let per : per_block x * blocks ≡ places h blocks = ap (λ n. 506 / n * blocks) (sym size) in
       let short : length x ≤ 28 = short_added h number in
-      let reads = layout_reads_back x blocks (map record_of closed.records) short some most (omega (arith, few, per, length-map record_of closed.records)) (all_writable_lem closed.records ok) in
+      let reads = layout_reads_back x blocks (map record_of closed.records) short some most (omega (arith, few, per, length-map closed.records record_of)) (all_writable_lem closed.records ok) in
       let tape : tape_of (entries (read_capture (closed_bytes h number blocks closed))) ≡ closed.records = ap (λ a. tape_of (entries a)) reads ∙ read_back x closed.records ok in
       let f = follows (places h blocks) closed.records (new_rig m) closed.records cs vs closed refl refl r in
       (reads, (f.0, ap (λ t. replays t (new_replay m t) cs) tape ∙ f.1));
   settled_by_records = λ one other l h m cs.
       let e : tape_of (entries (read_capture one)) ≡ tape_of (entries (read_capture other)) =
-      tape_is (entries (read_capture one)) ∙ (ap (map exchange_of) (same_all (records_of one) (records_of other) l h) ∙ sym (tape_is (entries (read_capture other)))) in
+      tape_is (entries (read_capture one)) ∙ (ap (map exchange_of) (same_lists (records_of one) (records_of other) l h) ∙ sym (tape_is (entries (read_capture other)))) in
       ap (λ t. replays t (new_replay m t) cs) e;
   causal = λ k one other l l2 h m cs q q2.
       let es = entries (read_capture one) in
@@ -193,7 +169,7 @@ agreement = record {
       ap (take k) (tape_is es) ∙ (take-map exchange_of k (map plain_of es)
       ∙ (ap (map exchange_of) (same_front k (map plain_of es) (map plain_of fs) l l2 h)
       ∙ (sym (take-map exchange_of k (map plain_of fs)) ∙ ap (take k) (sym (tape_is fs))))) in
-      let long : k ≤ length (tape_of es) = omega (arith, l, length-map (λ e. exchange_of (plain_of e)) es, length-map plain_of es) in
+      let long : k ≤ length (tape_of es) = omega (arith, l, length-map es (λ e. exchange_of (plain_of e)), length-map es plain_of) in
       causally k (tape_of es) (tape_of fs) long front m cs q q2;
 }
   where

@@ -69,55 +69,52 @@ module _ (k : ℕ) (a b : List Exchange) where
       twin_onto (λ y. feed (f y)) (λ y. Asks k (f y)) (feed p n v (c ++ a)) (feed p n v (c ++ b)) (λ y n v c u h. twin_feed (f y) n v c u h)
       i.end i.mem i.at i.common i.left i.right i.upto (λ q. h (inr q))
 
-abbrev at_rest : Processor → Memory → ℕ → List Exchange → Standing
-at_rest p n v t = standing p n v t
-
 record Both {A : Type 0} (k : ℕ) (a b : List Exchange) (z z2 : A × Standing) : Type 0 where
   end : A
   pro : Processor
   mem : Memory
   at : ℕ
   common : List Exchange
-  left : z ≡ (end, at_rest pro mem at (common ++ a))
-  right : z2 ≡ (end, at_rest pro mem at (common ++ b))
+  left : z ≡ (end, standing pro mem at (common ++ a))
+  right : z2 ≡ (end, standing pro mem at (common ++ b))
   upto : at + length common ≡ k
 
 module _ (k : ℕ) (a b : List Exchange) where
-  both_does : (j : Job) (p : Processor) (n : Memory) (v : ℕ) (c : List Exchange) → v + length c ≡ k → (AsksJob k j (at_rest p n v (c ++ a)) → ⊥)
-      → Both k a b (does j (at_rest p n v (c ++ a))) (does j (at_rest p n v (c ++ b)))
+  both_does : (j : Job) (p : Processor) (n : Memory) (v : ℕ) (c : List Exchange) → v + length c ≡ k → (AsksJob k j (standing p n v (c ++ a)) → ⊥)
+      → Both k a b (does j (standing p n v (c ++ a))) (does j (standing p n v (c ++ b)))
   unfolding does
   both_does j p n v c u h =
       let i = twin_feed k a b (courses j p) n v c u h in
       record { end = (settled p i.end).0; pro = (settled p i.end).1; mem = i.mem; at = i.at; common = i.common; left = ap (closes p) i.left; right = ap (closes p) i.right; upto = i.upto }
 
   both_tells : (z z2 : Result Answer Gone × Standing) (r : Result Answer Gone) (p : Processor) (n : Memory) (v : ℕ) (c : List Exchange)
-      → z ≡ (r, at_rest p n v (c ++ a)) → z2 ≡ (r, at_rest p n v (c ++ b)) → v + length c ≡ k → Both k a b (tells z.0 z.1) (tells z2.0 z2.1)
+      → z ≡ (r, standing p n v (c ++ a)) → z2 ≡ (r, standing p n v (c ++ b)) → v + length c ≡ k → Both k a b (tells z.0 z.1) (tells z2.0 z2.1)
   both_tells z z2 (Ok x) p n v c l r u = record { end = Ok x; pro = p; mem = n; at = v; common = c; left = ap (λ z. tells z.0 z.1) l; right = ap (λ z. tells z.0 z.1) r; upto = u }
   both_tells z z2 (Err g) p n v c l r u = record { end = Err (SideGone v); pro = p; mem = n; at = v; common = c; left = ap (λ z. tells z.0 z.1) l; right = ap (λ z. tells z.0 z.1) r; upto = u }
 
-  both_jobs : (j : Job) (p : Processor) (n : Memory) (v : ℕ) (c : List Exchange) → v + length c ≡ k → (AsksJob k j (at_rest p n v (c ++ a)) → ⊥)
-      → Both k a b (jobs always j (at_rest p n v (c ++ a))) (jobs always j (at_rest p n v (c ++ b)))
+  both_jobs : (j : Job) (p : Processor) (n : Memory) (v : ℕ) (c : List Exchange) → v + length c ≡ k → (AsksJob k j (standing p n v (c ++ a)) → ⊥)
+      → Both k a b (jobs always j (standing p n v (c ++ a))) (jobs always j (standing p n v (c ++ b)))
   both_jobs j p n v c u h =
       let i = both_does j p n v c u h in
-      both_tells (does j (at_rest p n v (c ++ a))) (does j (at_rest p n v (c ++ b))) i.end i.pro i.mem i.at i.common i.left i.right i.upto
+      both_tells (does j (standing p n v (c ++ a))) (does j (standing p n v (c ++ b))) i.end i.pro i.mem i.at i.common i.left i.right i.upto
 
   both_unless : {X : Type 0} (o : Option Refusal) (P : Type 0) (z z2 : Result X Refusal × Standing) (p : Processor) (n : Memory) (v : ℕ) (c : List Exchange) → v + length c ≡ k
-      → ((P → ⊥) → Both k a b z z2) → (AsksUnless o P → ⊥) → Both k a b (unless o z (at_rest p n v (c ++ a))) (unless o z2 (at_rest p n v (c ++ b)))
+      → ((P → ⊥) → Both k a b z z2) → (AsksUnless o P → ⊥) → Both k a b (unless o z (standing p n v (c ++ a))) (unless o z2 (standing p n v (c ++ b)))
   both_unless None P z z2 p n v c u f h = f h
   both_unless (Some e) P z z2 p n v c u f h = record { end = Err e; pro = p; mem = n; at = v; common = c; left = refl; right = refl; upto = u }
 
   both_paced : (F : Standing → Run × Standing) (G : Standing → Type 0) (i : ℕ)
-      → ((p : Processor) (n : Memory) (v : ℕ) (c : List Exchange) → v + length c ≡ k → (G (at_rest p n v (c ++ a)) → ⊥) → Both k a b (F (at_rest p n v (c ++ a))) (F (at_rest p n v (c ++ b))))
-      → (x : Pace) (p : Processor) (n : Memory) (v : ℕ) (c : List Exchange) → v + length c ≡ k → (AsksPaced G x (at_rest p n v (c ++ a)) → ⊥)
-      → Both k a b (paced F i x (at_rest p n v (c ++ a))) (paced F i x (at_rest p n v (c ++ b)))
+      → ((p : Processor) (n : Memory) (v : ℕ) (c : List Exchange) → v + length c ≡ k → (G (standing p n v (c ++ a)) → ⊥) → Both k a b (F (standing p n v (c ++ a))) (F (standing p n v (c ++ b))))
+      → (x : Pace) (p : Processor) (n : Memory) (v : ℕ) (c : List Exchange) → v + length c ≡ k → (AsksPaced G x (standing p n v (c ++ a)) → ⊥)
+      → Both k a b (paced F i x (standing p n v (c ++ a))) (paced F i x (standing p n v (c ++ b)))
   both_paced F G i f On p n v c u h = f p n v c u h
   both_paced F G i f PaceHalted p n v c u h = record { end = record { steps = i + 1; end = EndHalted }; pro = p; mem = n; at = v; common = c; left = refl; right = refl; upto = u }
   both_paced F G i f PaceDead p n v c u h = record { end = record { steps = i + 1; end = EndDead }; pro = p; mem = n; at = v; common = c; left = refl; right = refl; upto = u }
 
   both_onward : (F : Standing → Run × Standing) (G : Standing → Type 0) (i : ℕ) (z z2 : Result Answer Gone × Standing)
-      → ((p : Processor) (n : Memory) (v : ℕ) (c : List Exchange) → v + length c ≡ k → (G (at_rest p n v (c ++ a)) → ⊥) → Both k a b (F (at_rest p n v (c ++ a))) (F (at_rest p n v (c ++ b))))
+      → ((p : Processor) (n : Memory) (v : ℕ) (c : List Exchange) → v + length c ≡ k → (G (standing p n v (c ++ a)) → ⊥) → Both k a b (F (standing p n v (c ++ a))) (F (standing p n v (c ++ b))))
       → (r : Result Answer Gone) (p : Processor) (n : Memory) (v : ℕ) (c : List Exchange)
-      → z ≡ (r, at_rest p n v (c ++ a)) → z2 ≡ (r, at_rest p n v (c ++ b)) → v + length c ≡ k → (AsksNext G z.0 z.1 → ⊥)
+      → z ≡ (r, standing p n v (c ++ a)) → z2 ≡ (r, standing p n v (c ++ b)) → v + length c ≡ k → (AsksNext G z.0 z.1 → ⊥)
       → Both k a b (onward F i z.0 z.1) (onward F i z2.0 z2.1)
   both_onward F G i z z2 f (Ok x) p n v c l r u h =
       let P : Result Answer Gone × Standing → Type 0 = λ z. AsksNext G z.0 z.1 in
@@ -128,26 +125,26 @@ module _ (k : ℕ) (a b : List Exchange) where
       let O : Result Answer Gone × Standing → Run × Standing = λ z. onward F i z.0 z.1 in
       record { end = record { steps = i; end = EndSideGone v }; pro = p; mem = n; at = v; common = c; left = ap O l; right = ap O r; upto = u }
 
-  both_runs : (m i : ℕ) (p : Processor) (n : Memory) (v : ℕ) (c : List Exchange) → v + length c ≡ k → (AsksRun k m (at_rest p n v (c ++ a)) → ⊥)
-      → Both k a b (runs always m i (at_rest p n v (c ++ a))) (runs always m i (at_rest p n v (c ++ b)))
+  both_runs : (m i : ℕ) (p : Processor) (n : Memory) (v : ℕ) (c : List Exchange) → v + length c ≡ k → (AsksRun k m (standing p n v (c ++ a)) → ⊥)
+      → Both k a b (runs always m i (standing p n v (c ++ a))) (runs always m i (standing p n v (c ++ b)))
   both_runs zero i p n v c u h = record { end = record { steps = i; end = AllSteps }; pro = p; mem = n; at = v; common = c; left = refl; right = refl; upto = u }
   both_runs (suc m) i p n v c u h =
       let d = both_does Step p n v c u (λ q. h (inl q)) in
-      both_onward (λ t. runs always m (i + 1) t) (λ t. AsksRun k m t) i (does Step (at_rest p n v (c ++ a))) (does Step (at_rest p n v (c ++ b))) (λ p n v c u h. both_runs m (i + 1) p n v c u h)
+      both_onward (λ t. runs always m (i + 1) t) (λ t. AsksRun k m t) i (does Step (standing p n v (c ++ a))) (does Step (standing p n v (c ++ b))) (λ p n v c u h. both_runs m (i + 1) p n v c u h)
       d.end d.pro d.mem d.at d.common d.left d.right d.upto (λ q. h (inr q))
 
   both_map : {A B : Type 0} (f : A → B) (z z2 : A × Standing) → Both k a b z z2 → Both {A = B} k a b (f z.0, z.1) (f z2.0, z2.1)
   both_map f z z2 d = record { end = f d.end; pro = d.pro; mem = d.mem; at = d.at; common = d.common; left = ap (λ z. (f z.0, z.1)) d.left; right = ap (λ z. (f z.0, z.1)) d.right; upto = d.upto }
 
-  both_plays : (c : Call) (p : Processor) (n : Memory) (v : ℕ) (t : List Exchange) → v + length t ≡ k → (AsksCall k c (at_rest p n v (t ++ a)) → ⊥)
-      → Both k a b (plays always c (at_rest p n v (t ++ a))) (plays always c (at_rest p n v (t ++ b)))
-  both_plays (CallRestart pc psw) p n v t u h = both_map OfJob _ _ (both_unless (asked_restart p.life) (AsksJob k (Restart pc psw) (at_rest p n v (t ++ a))) (jobs always (Restart pc psw) (at_rest p n v (t ++ a))) (jobs always (Restart pc psw) (at_rest p n v (t ++ b))) p n v t u (both_jobs (Restart pc psw) p n v t u) h)
-  both_plays CallStep p n v t u h = both_map OfJob _ _ (both_unless (asked_step p.life) (AsksJob k Step (at_rest p n v (t ++ a))) (jobs always Step (at_rest p n v (t ++ a))) (jobs always Step (at_rest p n v (t ++ b))) p n v t u (both_jobs Step p n v t u) h)
-  both_plays (CallRun m) p n v t u h = both_map OfRun _ _ (both_unless (asked_run m p.life) (AsksRun k m (at_rest p n v (t ++ a))) (Ok (runs always m 0 (at_rest p n v (t ++ a))).0, (runs always m 0 (at_rest p n v (t ++ a))).1) (Ok (runs always m 0 (at_rest p n v (t ++ b))).0, (runs always m 0 (at_rest p n v (t ++ b))).1) p n v t u
-      (λ h. both_map Ok (runs always m 0 (at_rest p n v (t ++ a))) (runs always m 0 (at_rest p n v (t ++ b))) (both_runs m 0 p n v t u h)) h)
+  both_plays : (c : Call) (p : Processor) (n : Memory) (v : ℕ) (t : List Exchange) → v + length t ≡ k → (AsksCall k c (standing p n v (t ++ a)) → ⊥)
+      → Both k a b (plays always c (standing p n v (t ++ a))) (plays always c (standing p n v (t ++ b)))
+  both_plays (CallRestart pc psw) p n v t u h = both_map OfJob _ _ (both_unless (asked_restart p.life) (AsksJob k (Restart pc psw) (standing p n v (t ++ a))) (jobs always (Restart pc psw) (standing p n v (t ++ a))) (jobs always (Restart pc psw) (standing p n v (t ++ b))) p n v t u (both_jobs (Restart pc psw) p n v t u) h)
+  both_plays CallStep p n v t u h = both_map OfJob _ _ (both_unless (asked_step p.life) (AsksJob k Step (standing p n v (t ++ a))) (jobs always Step (standing p n v (t ++ a))) (jobs always Step (standing p n v (t ++ b))) p n v t u (both_jobs Step p n v t u) h)
+  both_plays (CallRun m) p n v t u h = both_map OfRun _ _ (both_unless (asked_run m p.life) (AsksRun k m (standing p n v (t ++ a))) (Ok (runs always m 0 (standing p n v (t ++ a))).0, (runs always m 0 (standing p n v (t ++ a))).1) (Ok (runs always m 0 (standing p n v (t ++ b))).0, (runs always m 0 (standing p n v (t ++ b))).1) p n v t u
+      (λ h. both_map Ok (runs always m 0 (standing p n v (t ++ a))) (runs always m 0 (standing p n v (t ++ b))) (both_runs m 0 p n v t u h)) h)
 
   both_replay : (tape tape2 : List Exchange) → ((v : ℕ) → v ≤ k → take v tape ≡ take v tape2) → (cs : List Call) (p : Processor) (n : Memory) (v : ℕ) (t : List Exchange) → v + length t ≡ k
-      → (AsksIn k (at_rest p n v (t ++ a)) cs → ⊥) → replays tape (at_rest p n v (t ++ a)) cs ≡ replays tape2 (at_rest p n v (t ++ b)) cs
+      → (AsksIn k (standing p n v (t ++ a)) cs → ⊥) → replays tape (standing p n v (t ++ a)) cs ≡ replays tape2 (standing p n v (t ++ b)) cs
   both_replay tape tape2 w [] p n v t u h = refl
   both_replay tape tape2 w (c ∷ cs) p n v t u h =
       let d = both_plays c p n v t u (λ q. h (inl q)) in
@@ -155,7 +152,7 @@ module _ (k : ℕ) (a b : List Exchange) where
       let i = both_replay tape tape2 w cs d.pro d.mem d.at d.common d.upto (λ q. h (inr (subst P (sym d.left) q))) in
       let le : d.at ≤ k = omega (arith, d.upto) in
       ap (λ z. view_of tape z ∷ replays tape z.1 cs) d.left
-      ∙ (ap (λ x. record { said = d.end; shown = record { processor = d.pro; memory = d.mem; records = x } } ∷ replays tape (at_rest d.pro d.mem d.at (d.common ++ a)) cs) (w d.at le)
+      ∙ (ap (λ x. record { said = d.end; shown = record { processor = d.pro; memory = d.mem; records = x } } ∷ replays tape (standing d.pro d.mem d.at (d.common ++ a)) cs) (w d.at le)
       ∙ (ap (λ x. record { said = d.end; shown = record { processor = d.pro; memory = d.mem; records = take d.at tape2 } } ∷ x) i
       ∙ sym (ap (λ z. view_of tape2 z ∷ replays tape2 z.1 cs) d.right)))
 

@@ -2,8 +2,7 @@
 ghost use Rattle.station.specs.Agreement.{Agreement};
 
 // Says that a replay agrees with its recording, whole: see the statement.
-pub fn replay_agrees() -> u8
+#[tactic(auto, using(crate::proofs::Agreeing::agreement))]
+pub fn replay_agrees()
     ensures { Agreement }
-{
-    0
-}
+{}

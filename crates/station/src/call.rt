@@ -75,12 +75,16 @@ pub enum Pace {
     Dead,
 }
 
-pub(crate) fn pace_of(answer: Answer) -> Pace
-    ensures { result ≡ pace answer }
-{
-    match answer {
-        Answer::Halted => Pace::Halted,
-        Answer::Dead => Pace::Dead,
-        Answer::WentOn | Answer::Entered | Answer::Waiting | Answer::Idle => Pace::On,
+impl From<Answer> for Pace {
+    ghost from_gives = { λ a p. p ≡ pace a };
+
+    fn from(answer: Answer) -> Pace
+        ensures { result ≡ pace answer }
+    {
+        match answer {
+            Answer::Halted => Pace::Halted,
+            Answer::Dead => Pace::Dead,
+            Answer::WentOn | Answer::Entered | Answer::Waiting | Answer::Idle => Pace::On,
+        }
     }
 }
