@@ -23,7 +23,7 @@ use Rattle.execution.specs.Transfers.{branched, looped, jumps, calls, leaves, ma
 
 -- RESET asks INIT and drops the requests of IRQ2 and IRQ3.
 abbrev pub dropped : Processor → Processor
-dropped p = with_requests p (record { aclo = p.requests.aclo; irq2 = false; irq3 = false })
+dropped p = with_requests p (record p.requests { irq2 = false; irq3 = false })
 
 unfoldable pub resets : Processor → Act (Ending × Processor)
 resets p = bind (asks Init) (λ a. done (Completed, dropped p))

@@ -2,7 +2,7 @@
 ghost use Rattle.std.specs.Prelude.{◌≡◌};
 ghost use Rattle.operands.specs.State.{beside};
 ghost use Rattle.operands.specs.Machines.{Ran};
-ghost use Rattle.execution.specs.Changes.{size, outcome, puts, flagged, concludes, alters, changes, overwrites, reads, combines, doubles, sums, loads_status};
+ghost use Rattle.execution.specs.Changes.{size, outcome, puts, flagged, concludes, changes, overwrites, reads, doubles, sums, loads_status};
 
 use crate::ending::Ending;
 use arithmetic::{Flags, Outcome, sign_spread};
@@ -111,23 +111,8 @@ fn conclude<B: Board, C: Cabinet>(
     }
 }
 
-#[tactic(auto, unfolding(crate::specs::Changes::alters))]
-fn alter<B: Board, C: Cabinet>(
-    machine: &mut Machine<'_, B, C>,
-    change: Change,
-    at: Location,
-) -> Result<Ending, Gone>
-    ensures { Ran B.Board C.Cabinet (alters change at) machine.old (beside result machine.new.processor.now) machine.new }
-{
-    let Some(old) = machine.take(change.size(), at)? else {
-        return Ok(Ending::TimedOut);
-    };
-    let outcome = change.outcome(old, machine.processor.psw);
-    conclude(machine, Reach::LowHalf, change.size(), at, outcome)
-}
-
 // Reads the destination, sets the flags, and writes the result where there is one.
-#[tactic(auto, unfolding(crate::specs::Changes::changes))]
+#[tactic(auto, unfolding(crate::specs::Changes::changes, crate::specs::Changes::alters))]
 pub(crate) fn apply<B: Board, C: Cabinet>(
     machine: &mut Machine<'_, B, C>,
     change: Change,
@@ -135,10 +120,15 @@ pub(crate) fn apply<B: Board, C: Cabinet>(
 ) -> Result<Ending, Gone>
     ensures { Ran B.Board C.Cabinet (changes change destination) machine.old (beside result machine.new.processor.now) machine.new }
 {
-    let Some(at) = machine.locate(change.size(), destination)? else {
+    let size = change.size();
+    let Some(at) = machine.locate(size, destination)? else {
         return Ok(Ending::TimedOut);
     };
-    alter(machine, change, at)
+    let Some(old) = machine.take(size, at)? else {
+        return Ok(Ending::TimedOut);
+    };
+    let outcome = change.outcome(old, machine.processor.psw);
+    conclude(machine, Reach::LowHalf, size, at, outcome)
 }
 
 // Sets the flags and writes the result, with no look at what the destination held.
@@ -171,29 +161,6 @@ fn read<B: Board, C: Cabinet>(
     machine.take(size, at)
 }
 
-fn combine<B: Board, C: Cabinet>(
-    machine: &mut Machine<'_, B, C>,
-    operation: DoubleOperation,
-    size: Size,
-    source: u16,
-    destination: Operand,
-) -> Result<Ending, Gone>
-    ensures { Ran B.Board C.Cabinet (combines operation size source destination) machine.old (beside result machine.new.processor.now) machine.new }
-{
-    match operation {
-        DoubleOperation::Mov => {
-            let flags = Flags::of_status(machine.processor.psw);
-            let outcome = arithmetic::double(DoubleOperation::Mov, size, source, 0, flags);
-            overwrite(machine, size, outcome, destination)
-        }
-        _ => apply(
-            machine,
-            Change::Double(operation, size, source),
-            destination,
-        ),
-    }
-}
-
 // MOV, CMP, BIT, BIC and BIS.
 #[tactic(auto, unfolding(crate::specs::Changes::doubles))]
 pub(crate) fn double<B: Board, C: Cabinet>(
@@ -208,7 +175,14 @@ pub(crate) fn double<B: Board, C: Cabinet>(
     let Some(value) = read(machine, size, source)? else {
         return Ok(Ending::TimedOut);
     };
-    combine(machine, operation, size, value, destination)
+    match operation {
+        DoubleOperation::Mov => {
+            let flags = Flags::of_status(machine.processor.psw);
+            let outcome = arithmetic::double(DoubleOperation::Mov, size, value, 0, flags);
+            overwrite(machine, size, outcome, destination)
+        }
+        _ => apply(machine, Change::Double(operation, size, value), destination),
+    }
 }
 
 // ADD and SUB.

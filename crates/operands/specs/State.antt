@@ -32,60 +32,20 @@ register p r = slice_index p.registers (digit r)
 
 -- The state with another word in a register, and with another status word.
 abbrev pub with_register : Processor → Register → ℕ → Processor
-with_register p r w = record {
-  registers = slice_set p.registers (digit r) w;
-  psw = p.psw;
-  lines = p.lines;
-  requests = p.requests;
-  trace = p.trace;
-  waiting = p.waiting;
-  life = p.life;
-}
+with_register p r w = record p { registers = slice_set p.registers (digit r) w }
 
 abbrev pub with_psw : Processor → ℕ → Processor
-with_psw p w = record {
-  registers = p.registers;
-  psw = w;
-  lines = p.lines;
-  requests = p.requests;
-  trace = p.trace;
-  waiting = p.waiting;
-  life = p.life;
-}
+with_psw p w = record p { psw = w }
 
 -- The state with another life, with the waiting mark set or cleared, and with other requests.
 abbrev pub with_life : Processor → Life → Processor
-with_life p l = record {
-  registers = p.registers;
-  psw = p.psw;
-  lines = p.lines;
-  requests = p.requests;
-  trace = p.trace;
-  waiting = p.waiting;
-  life = l;
-}
+with_life p l = record p { life = l }
 
 abbrev pub with_waiting : Processor → Bool → Processor
-with_waiting p b = record {
-  registers = p.registers;
-  psw = p.psw;
-  lines = p.lines;
-  requests = p.requests;
-  trace = p.trace;
-  waiting = b;
-  life = p.life;
-}
+with_waiting p b = record p { waiting = b }
 
 abbrev pub with_requests : Processor → Requests → Processor
-with_requests p q = record {
-  registers = p.registers;
-  psw = p.psw;
-  lines = p.lines;
-  requests = q;
-  trace = p.trace;
-  waiting = p.waiting;
-  life = p.life;
-}
+with_requests p q = record p { requests = q }
 
 -- A course's end beside the processor's state that it leaves.
 abbrev pub beside : {X : Type 0} → Result X Gone → Processor → Result (X × Processor) Gone

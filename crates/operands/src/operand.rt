@@ -88,6 +88,7 @@ impl<B: Board, C: Cabinet> Machine<'_, B, C> {
         load(self.board, self.side, at)
     }
 
+    // Each access is taken apart by `let .. else`, the one form of a time-out in this and the crates above.
     #[tactic(auto, unfolding(crate::specs::Operands::indexes))]
     fn index(&mut self, r: Register) -> Result<Option<u16>, Gone>
         ensures { Ran B.Board C.Cabinet (indexes r) self.old (beside result self.new.processor.now) self.new }
@@ -173,7 +174,7 @@ impl<B: Board, C: Cabinet> Machine<'_, B, C> {
     }
 }
 
-// The word at PC, which rises past it.
+// The word at PC, which rises past it. This and what follows are for callers that lend board and side to each call.
 pub fn fetch<B: Board, C: Cabinet>(
     p: &mut Processor,
     board: &mut B,

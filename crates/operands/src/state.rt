@@ -53,7 +53,7 @@ impl Processor {
     }
 }
 
-// Whether requests, marks and lives are the same.
+// Whether requests, marks and lives are the same; apart from `eq`, whose chain would get too long to be proved.
 fn same_marks(a: &Processor, b: &Processor) -> bool
     ensures { Decides result ((a.now.requests ≡ b.now.requests) × (a.now.trace ≡ b.now.trace) × (a.now.waiting ≡ b.now.waiting) × (a.now.life ≡ b.now.life)) }
 {

@@ -12,15 +12,7 @@ use Rattle.processor.specs.declared.answer.Answer.TheVariants.{Entered, Dead as 
 
 -- The state with both marks cleared.
 abbrev pub unmarked : Processor → Processor
-unmarked p = record {
-  registers = p.registers;
-  psw = p.psw;
-  lines = p.lines;
-  requests = p.requests;
-  trace = false;
-  waiting = false;
-  life = p.life;
-}
+unmarked p = record p { trace = false; waiting = false }
 
 -- A time-out while entering makes the processor dead.
 abbrev pub dies : Processor → Act (Answer × Processor)

@@ -16,18 +16,13 @@ abbrev pub requested : Bool → Bool → Bool → Bool
 requested before last current = before || (current && not last)
 
 abbrev pub sampled : LineBits → Processor → Processor
-sampled l p = record {
-  registers = p.registers;
-  psw = p.psw;
+sampled l p = record p {
   lines = l;
   requests = record {
     aclo = requested p.requests.aclo p.lines.aclo l.aclo;
     irq2 = requested p.requests.irq2 p.lines.irq2 l.irq2;
     irq3 = requested p.requests.irq3 p.lines.irq3 l.irq3;
   };
-  trace = p.trace;
-  waiting = p.waiting;
-  life = p.life;
 }
 
 -- T is bit 4 of PSW, P is bit 7.

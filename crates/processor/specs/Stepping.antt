@@ -31,15 +31,7 @@ vector Trap = 0o34
 
 -- The trace mark becomes T.
 abbrev pub traced : Processor → Processor
-traced p = record {
-  registers = p.registers;
-  psw = p.psw;
-  lines = p.lines;
-  requests = p.requests;
-  trace = traces p.psw;
-  waiting = p.waiting;
-  life = p.life;
-}
+traced p = record p { trace = traces p.psw }
 
 -- How a step goes on from the end of its instruction; an access that timed out enters 4.
 unfoldable pub concludes : Ending → Processor → Act (Answer × Processor)
@@ -69,9 +61,9 @@ enters_asked p = bind (asks Vector) (λ a. elim a [
 
 -- An accepted request is cleared and entered.
 unfoldable pub accepts : Accepted → Processor → Act (Answer × Processor)
-accepts Aclo p = enters 0o24 (with_requests p (record { aclo = false; irq2 = p.requests.irq2; irq3 = p.requests.irq3 }))
-accepts Irq2 p = enters 0o100 (with_requests p (record { aclo = p.requests.aclo; irq2 = false; irq3 = p.requests.irq3 }))
-accepts Irq3 p = enters 0o270 (with_requests p (record { aclo = p.requests.aclo; irq2 = p.requests.irq2; irq3 = false }))
+accepts Aclo p = enters 0o24 (with_requests p (record p.requests { aclo = false }))
+accepts Irq2 p = enters 0o100 (with_requests p (record p.requests { irq2 = false }))
+accepts Irq3 p = enters 0o270 (with_requests p (record p.requests { irq3 = false }))
 accepts Virq p = enters_asked p
 
 -- The first that applies: trace, an accepted request, waiting on, executing. One that does not run is idle.

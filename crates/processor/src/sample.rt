@@ -21,7 +21,7 @@ fn is_odd(n: u16) -> bool
     n % 2 == 1
 }
 
-// The lines of a reply; none is active where it timed out.
+// The lines of a reply; none is active where it timed out. No `From`, since neither type is this crate's.
 pub(crate) fn lines_in(reply: Option<u16>) -> LineBits
     ensures { result ≡ lines_of reply }
 {

@@ -2,24 +2,18 @@
 ghost use Rattle.std.specs.Prelude.{◌≡◌};
 ghost use Rattle.operands.specs.State.{beside};
 ghost use Rattle.operands.specs.Machines.{Ran};
-ghost use Rattle.processor.specs.Stepping.{vector, traced, concludes, advances, enters_asked, accepts, chooses, steps};
+ghost use Rattle.processor.specs.Stepping.{traced, concludes, advances, enters_asked, accepts, chooses, steps};
 
 use crate::answer::Answer;
 use crate::enter::{die, enter};
 use crate::sample::{Accepted, accept_first, is_tracing, lines_in, sample};
 use bus::{Board, Cabinet, Gone, Request};
-use execution::{Ending, Trap, execute_on};
+use execution::{Ending, execute_on};
 use isa::decode;
 use operands::{Life, Machine, Processor};
 
 // The vector that an access which timed out enters.
 const TIME_OUT: u16 = 0o4;
-
-fn vector_of(trap: Trap) -> u16
-    ensures { result ≡ vector trap }
-{
-    trap as u16
-}
 
 fn mark_trace(p: &mut Processor)
     ensures { p.new ≡ traced p.old }
@@ -45,7 +39,7 @@ fn conclude<B: Board, C: Cabinet>(
             Ok(Answer::Halted)
         }
         Ending::TimedOut => enter(machine, TIME_OUT),
-        Ending::Trapped(trap) => enter(machine, vector_of(trap)),
+        Ending::Trapped(trap) => enter(machine, trap as u16),
     }
 }
 
@@ -77,6 +71,7 @@ fn accept<B: Board, C: Cabinet>(
 ) -> Result<Answer, Gone>
     ensures { Ran B.Board C.Cabinet (accepts accepted) machine.old (beside result machine.new.processor.now) machine.new }
 {
+    // Each request has its own mark beside its own vector.
     let requests = &mut machine.processor.requests;
     match accepted {
         Accepted::Aclo => {
@@ -99,6 +94,7 @@ fn accept<B: Board, C: Cabinet>(
 fn choose<B: Board, C: Cabinet>(machine: &mut Machine<'_, B, C>) -> Result<Answer, Gone>
     ensures { Ran B.Board C.Cabinet chooses machine.old (beside result machine.new.processor.now) machine.new }
 {
+    // One match on all that decides, so that what comes before what is read off in one place.
     let p = &*machine.processor;
     match (p.life, p.trace, p.waiting, accept_first(p)) {
         (Life::Running, true, _, _) => enter(machine, 0o14),

@@ -18,7 +18,8 @@ pub(crate) const QUIET: LineBits = LineBits {
 // The vectors, which lead to 2000 and their own number, with PSW 0.
 const VECTORS: [u16; 10] = [0o4, 0o10, 0o14, 0o20, 0o24, 0o30, 0o34, 0o60, 0o100, 0o270];
 
-// G went on, E entered a vector, W waiting, H halted, D dead, I idle, X the side was gone.
+// One letter an answer, so that a test's row fits its line: G went on, E entered a vector, W waiting, H halted, D dead,
+// I idle, X the side was gone.
 pub(crate) fn letter(answer: Result<Answer, Gone>) -> char {
     match answer {
         Ok(Answer::WentOn) => 'G',
@@ -45,7 +46,7 @@ pub(crate) fn place<B: Board>(board: &mut B, program: &[u16]) {
     }
 }
 
-// One step.
+// One step. Bench, board and side are lent to each call, as `perform` takes them.
 pub(crate) fn step<B: Board, C: Cabinet>(bench: &mut Bench, board: &mut B, side: &mut C) -> char {
     letter(perform(bench, board, side, Job::Step))
 }

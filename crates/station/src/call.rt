@@ -29,7 +29,7 @@ pub enum Refusal {
 }
 
 impl Refusal {
-    // The number by which operators know it.
+    // The number by which operators know it. `SideGone` carries a count, so the numbers cannot be the variants' own.
     pub fn number(self) -> u8
         ensures { result ≡ (numbered self).0 }
     {
