@@ -2,7 +2,7 @@
 ghost use Rattle.std.specs.Prelude.{◌≡◌};
 ghost use Rattle.operands.specs.State.{beside};
 ghost use Rattle.operands.specs.Machines.{Ran};
-ghost use Rattle.execution.specs.Transfers.{branched, looped, jumps, links, calls, pops_into, leaves, marks, restores};
+ghost use Rattle.execution.specs.Transfers.{branched, looped, jumps, calls, pops_into, leaves, marks, restores};
 
 use crate::ending::{Ending, Trap};
 use crate::stack::{pop, push_on, with_lowered_stack};
@@ -47,35 +47,15 @@ pub(crate) fn jump<B: Board, C: Cabinet>(
     let Some(at) = machine.locate(Size::Word, destination)? else {
         return Ok(Ending::TimedOut);
     };
-    match at {
-        Location::InRegister(_) => Ok(Ending::Trapped(Trap::JumpToRegister)),
-        Location::InMemory(target) => {
-            machine.processor.set_register(Register::Pc, target);
-            Ok(Ending::Completed)
-        }
-    }
-}
-
-#[tactic(auto, unfolding(crate::specs::Transfers::links))]
-fn link<B: Board, C: Cabinet>(
-    machine: &mut Machine<'_, B, C>,
-    r: Register,
-    target: u16,
-) -> Result<Ending, Gone>
-    ensures { Ran B.Board C.Cabinet (links r target) machine.old (beside result machine.new.processor.now) machine.new }
-{
-    let word = with_lowered_stack(*machine.processor).register(r);
-    let Some(()) = push_on(machine, word)? else {
-        return Ok(Ending::TimedOut);
+    let Location::InMemory(target) = at else {
+        return Ok(Ending::Trapped(Trap::JumpToRegister));
     };
-    let p = &mut *machine.processor;
-    p.set_register(r, p.register(Register::Pc));
-    p.set_register(Register::Pc, target);
+    machine.processor.set_register(Register::Pc, target);
     Ok(Ending::Completed)
 }
 
 // JSR.
-#[tactic(auto, unfolding(crate::specs::Transfers::calls, crate::specs::Transfers::calls_at))]
+#[tactic(auto, unfolding(crate::specs::Transfers::calls, crate::specs::Transfers::calls_at, crate::specs::Transfers::links))]
 pub(crate) fn call<B: Board, C: Cabinet>(
     machine: &mut Machine<'_, B, C>,
     r: Register,
@@ -86,10 +66,17 @@ pub(crate) fn call<B: Board, C: Cabinet>(
     let Some(at) = machine.locate(Size::Word, destination)? else {
         return Ok(Ending::TimedOut);
     };
-    match at {
-        Location::InRegister(_) => Ok(Ending::Trapped(Trap::JumpToRegister)),
-        Location::InMemory(target) => link(machine, r, target),
-    }
+    let Location::InMemory(target) = at else {
+        return Ok(Ending::Trapped(Trap::JumpToRegister));
+    };
+    let word = with_lowered_stack(*machine.processor).register(r);
+    let Some(()) = push_on(machine, word)? else {
+        return Ok(Ending::TimedOut);
+    };
+    let p = &mut *machine.processor;
+    p.set_register(r, p.register(Register::Pc));
+    p.set_register(Register::Pc, target);
+    Ok(Ending::Completed)
 }
 
 #[tactic(auto, unfolding(crate::specs::Transfers::pops_into))]

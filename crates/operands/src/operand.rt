@@ -3,7 +3,7 @@ ghost use Rattle.std.specs.Prelude.{◌≡◌};
 ghost use Rattle.bus.specs.Courses.{Played};
 ghost use Rattle.operands.specs.State.{beside};
 ghost use Rattle.operands.specs.Machines.{Ran};
-ghost use Rattle.operands.specs.Operands.{fetches, stride, points, indexes, index_points, locates, half, loads_byte, takes, gives};
+ghost use Rattle.operands.specs.Operands.{fetches, stride, points, indexes, locates, half, loads_byte, takes, gives};
 
 use crate::machine::Machine;
 use crate::state::Processor;
@@ -99,18 +99,8 @@ impl<B: Board, C: Cabinet> Machine<'_, B, C> {
         Ok(Some(word.wrapping_add(self.processor.register(r))))
     }
 
-    #[tactic(auto, unfolding(crate::specs::Operands::index_points))]
-    fn index_point(&mut self, r: Register) -> Result<Option<Location>, Gone>
-        ensures { Ran B.Board C.Cabinet (index_points r) self.old (beside result self.new.processor.now) self.new }
-    {
-        let Some(at) = self.index(r)? else {
-            return Ok(None);
-        };
-        point(self.board, self.side, at)
-    }
-
     // Where an operand lies.
-    #[tactic(auto, unfolding(crate::specs::Operands::locates))]
+    #[tactic(auto, unfolding(crate::specs::Operands::locates, crate::specs::Operands::index_points))]
     pub fn locate(&mut self, size: Size, operand: Operand) -> Result<Option<Location>, Gone>
         ensures { Ran B.Board C.Cabinet (locates size operand) self.old (beside result self.new.processor.now) self.new }
     {
@@ -139,7 +129,12 @@ impl<B: Board, C: Cabinet> Machine<'_, B, C> {
                 point(self.board, self.side, at)
             }
             Operand::Index(r) => Ok(self.index(r)?.map(Location::InMemory)),
-            Operand::IndexDeferred(r) => self.index_point(r),
+            Operand::IndexDeferred(r) => {
+                let Some(at) = self.index(r)? else {
+                    return Ok(None);
+                };
+                point(self.board, self.side, at)
+            }
         }
     }
 
