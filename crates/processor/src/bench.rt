@@ -109,8 +109,8 @@ pub fn perform<B: Board, C: Cabinet>(
     side: &mut C,
     job: Job,
 ) -> Result<Answer, Gone>
-    ensures carried { Carried C.Cabinet.meaning C.Cabinet.becomes job bench.old.processor (B.Board.meaning board.old) side.old result bench.new.processor (B.Board.meaning board.new) side.new }
-    ensures performed { Performed C.Cabinet.meaning C.Cabinet.becomes job bench.old.processor (B.Board.meaning board.old) side.old result bench.new.processor (B.Board.meaning board.new) side.new }
+    ensures carried { Carried C.meaning C.becomes job bench.old.processor (B.meaning board.old) side.old result bench.new.processor (B.meaning board.new) side.new }
+    ensures performed { Performed C.meaning C.becomes job bench.old.processor (B.meaning board.old) side.old result bench.new.processor (B.meaning board.new) side.new }
     ensures saved { bench.new.saved ≡ bench.old.processor }
 {
     bench.saved = bench.processor;
