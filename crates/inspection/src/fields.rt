@@ -81,18 +81,11 @@ pub fn mark_text(answered: bool) -> &'static str
     if answered { "answered" } else { "timed out" }
 }
 
-// A word in six octal digits, for callers with no heap to print in.
+// A word in six octal digits, as listings write it.
 pub fn octal(word: u16) -> [u8; 6]
     ensures { result ≡ octal_text word }
 {
-    [
-        b'0' + (word / 0o100000 % 8) as u8,
-        b'0' + (word / 0o10000 % 8) as u8,
-        b'0' + (word / 0o1000 % 8) as u8,
-        b'0' + (word / 0o100 % 8) as u8,
-        b'0' + (word / 0o10 % 8) as u8,
-        b'0' + (word % 8) as u8,
-    ]
+    listing::octal(word)
 }
 
 fn hex_digit(digit: u8) -> u8
