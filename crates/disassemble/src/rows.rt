@@ -16,7 +16,7 @@ use std::fmt;
 pub struct Row {
     pub address: u16,
     pub words: [u16; 3],
-    // How many of the words the instruction has.
+    // How many of the words the instruction has: three words are one plain value throughout.
     pub used: usize,
     pub line: Line,
 }

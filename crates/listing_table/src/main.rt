@@ -59,6 +59,7 @@ fn reads_back(row: &Row<'_>) -> bool {
     back.refusal.is_none() && back.words == shown
 }
 
+// It counts in the loop that prints: a chain would have to carry both counts beside the faults of reading and printing.
 fn run(rt: &HostRuntime) -> anyhow::Result<()> {
     let mut rows = 0u32;
     let mut wrong = 0u32;
