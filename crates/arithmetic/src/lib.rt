@@ -13,7 +13,7 @@ mod width;
 pub mod word;
 
 pub use branch::taken;
-pub use isa::Flags;
+pub use isa::{Flags, flags};
 pub use laws::arithmetic_laws;
 pub use one_operand::single;
 pub use outcome::Outcome;
