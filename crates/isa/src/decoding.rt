@@ -1,13 +1,38 @@
 // What an instruction word says, digit by digit.
 ghost use Rattle.std.specs.Prelude.{◌≡◌};
 ghost use Rattle.isa.specs.Reading.{register, mode, operand, offset, mask, double, five, low_condition, low_branch, high_condition, high_branch};
-ghost use Rattle.isa.specs.Reading.{control, returns, return_or_flags, zeros, word_sixes, byte_sixes, low, traps, high, sevens, digits, reading};
+ghost use Rattle.isa.specs.Reading.{control, returns, return_or_flags, zeros, word_sixes, byte_sixes, low, traps, high, sevens, reading};
 
 use crate::flags::Flags;
 use crate::instruction::{
     Condition, Control, DoubleOperation, FlagChange, Instruction, SingleOperation, Size,
 };
 use crate::operand::{Operand, Register};
+
+// The instruction that a word is, by its first two digits: each word has one.
+#[tactic(auto, unfolding(crate::specs::Reading::reading))]
+pub fn decode(word: u16) -> Instruction
+    ensures { result ≡ reading word }
+{
+    match word / 0o10000 {
+        0o00 => low_in(word),
+        0o01 => double_in(Size::Word, DoubleOperation::Mov, word),
+        0o02 => double_in(Size::Word, DoubleOperation::Cmp, word),
+        0o03 => double_in(Size::Word, DoubleOperation::Bit, word),
+        0o04 => double_in(Size::Word, DoubleOperation::Bic, word),
+        0o05 => double_in(Size::Word, DoubleOperation::Bis, word),
+        0o06 => Instruction::Add(operand_in(word / 0o100), operand_in(word)),
+        0o07 => seven_in(word),
+        0o10 => high_in(word),
+        0o11 => double_in(Size::Byte, DoubleOperation::Mov, word),
+        0o12 => double_in(Size::Byte, DoubleOperation::Cmp, word),
+        0o13 => double_in(Size::Byte, DoubleOperation::Bit, word),
+        0o14 => double_in(Size::Byte, DoubleOperation::Bic, word),
+        0o15 => double_in(Size::Byte, DoubleOperation::Bis, word),
+        0o16 => Instruction::Subtract(operand_in(word / 0o100), operand_in(word)),
+        _ => Instruction::Reserved(word),
+    }
+}
 
 // What a digit stands for is a match here and below: nothing derives the way back from a number to its variant.
 fn register_at(digit: u16) -> Register
@@ -252,31 +277,6 @@ fn seven_in(word: u16) -> Instruction
     match word / 0o1000 % 8 {
         4 => Instruction::ExclusiveOr(register_at(word / 0o100 % 8), operand_in(word)),
         7 => Instruction::Loop(register_at(word / 0o100 % 8), (word % 0o100) as u8),
-        _ => Instruction::Reserved(word),
-    }
-}
-
-// The instruction that a word is, by its first two digits: each word has one.
-#[tactic(auto, unfolding(crate::specs::Reading::reading))]
-pub fn decode(word: u16) -> Instruction
-    ensures { result ≡ reading word }
-{
-    match word / 0o10000 {
-        0o00 => low_in(word),
-        0o01 => double_in(Size::Word, DoubleOperation::Mov, word),
-        0o02 => double_in(Size::Word, DoubleOperation::Cmp, word),
-        0o03 => double_in(Size::Word, DoubleOperation::Bit, word),
-        0o04 => double_in(Size::Word, DoubleOperation::Bic, word),
-        0o05 => double_in(Size::Word, DoubleOperation::Bis, word),
-        0o06 => Instruction::Add(operand_in(word / 0o100), operand_in(word)),
-        0o07 => seven_in(word),
-        0o10 => high_in(word),
-        0o11 => double_in(Size::Byte, DoubleOperation::Mov, word),
-        0o12 => double_in(Size::Byte, DoubleOperation::Cmp, word),
-        0o13 => double_in(Size::Byte, DoubleOperation::Bit, word),
-        0o14 => double_in(Size::Byte, DoubleOperation::Bic, word),
-        0o15 => double_in(Size::Byte, DoubleOperation::Bis, word),
-        0o16 => Instruction::Subtract(operand_in(word / 0o100), operand_in(word)),
         _ => Instruction::Reserved(word),
     }
 }
