@@ -1,7 +1,8 @@
 -- What a passed check tells of a reader that stands in the capture.
+use Rattle.std.proofs.lemmas.Grind.{common_steps}
 use Rattle.std.proofs.Common.{rules}
 use Rattle.std.proofs.Common.{◌≡◌, ℕ, zero, suc, ◌+◌, ◌-◌, ◌*◌, ◌/◌, ◌%◌, ◌<◌, ◌≤◌, Bool, true, cond, eqb, leb, List, [], ◌∷◌, map, length, get_or, take, drop, is_ok, Ok, Err, Result, sym, refl, ap, ◌∙◌, inl, inr, arith}
-use Rattle.std.proofs.lemmas.List.{drop_all, drop-drop, length-take, length-drop}
+use Rattle.std.proofs.lemmas.List.{drop-drop, length-take, length-drop}
 use Rattle.std.proofs.lemmas.Bool.{cond-true, eqb-true, cases_lt}
 use Rattle.std.specs.List.{AllByRecursion}
 use Rattle.capture.specs.declared.refusal.Refusal.{Refusal}
@@ -29,14 +30,7 @@ block_ok b xs rest h = search rules
 
 -- past the last block nothing is left
 pub past : (xs : List ℕ) (b at : ℕ) → length xs % 512 ≡ 0 → length xs / 512 ≤ b → (word_at (block_at xs b) 2 ≡ 0) × (remains xs b at ≡ Ok [])
-past xs b at w h =
-    let d : drop (512 * b) xs ≡ [] = drop_all (512 * b) xs (omega arith) in
-    let k : length xs / 512 - (b + 1) ≡ 0 = omega arith in (
-      ap (λ (ys : List ℕ). word_at (take 512 ys) 2) d,
-      ap (λ (ys : List ℕ). read_then 0 (drop at (used_bytes (take 512 ys))) (read_from (b + 1) (length xs / 512 - (b + 1)) (drop (512 * (b + 1)) xs))) d
-          ∙ (ap (λ (ys : List ℕ). read_then 0 ys (read_from (b + 1) (length xs / 512 - (b + 1)) (drop (512 * (b + 1)) xs))) (drop_all at [] (omega arith))
-          ∙ ap (λ (j : ℕ). read_from (b + 1) j (drop (512 * (b + 1)) xs)) k),
-    )
+past xs b at w h = search (arith, common_steps)
 
 -- a lawful rest from block b on, as a reader at its start has it
 pub record Starts (xs : List ℕ) (b : ℕ) : Type 0 where
@@ -58,7 +52,7 @@ starts xs b w h = elim (cases_lt b (length xs / 512)) [
 -- at the end of a block's record bytes
 pub ends : (xs : List ℕ) (b at : ℕ) → length (used_bytes (block_at xs b)) ≤ at
     → remains xs b at ≡ read_from (b + 1) (length xs / 512 - (b + 1)) (drop (512 * (b + 1)) xs)
-ends xs b at h = ap (λ (ys : List ℕ). read_then 0 ys (read_from (b + 1) (length xs / 512 - (b + 1)) (drop (512 * (b + 1)) xs))) (drop_all at (used_bytes (block_at xs b)) h)
+ends xs b at h = search (arith, common_steps)
 
 pub record Turn (xs : List ℕ) (b : ℕ) (all : Answer) : Type 0 where
   pub used : word_at (block_at xs (b + 1)) 2 ≤ 506
@@ -129,7 +123,7 @@ checked xs h =
 
 -- past the last block no record is left
 pub none_left : (f : Feed) (b at : ℕ) → length f.bytes.now / 512 ≤ b → remains f.bytes.now b at ≡ remains f.bytes.now f.block f.from → left f ≡ []
-none_left f b at h s = ap entries (sym s ∙ (past f.bytes.now b at f.whole h).1)
+none_left f b at h s = search (arith, common_steps)
 
 unnumbered : (xs : List Entry) → map unnumbers (map numbers xs) ≡ xs
 unnumbered [] = refl

@@ -1,9 +1,9 @@
 -- What is laid out is read back.
+use Rattle.std.proofs.lemmas.Grind.{common_steps}
 use Rattle.std.proofs.Common.{rules}
-use Rattle.std.proofs.Common.{◌≡◌, ℕ, zero, suc, ◌+◌, ◌-◌, ◌*◌, ◌/◌, ◌%◌, ◌<◌, ◌≤◌, true, cond, leb, List, [], ◌∷◌, ◌++◌, map, length, get_or, take, drop, Ok, Err, Result, sym, refl, ap, ◌∙◌, subst, mul-le-mul_left, mul-zero, mul-suc, arith, length-append, length-drop}
+use Rattle.std.proofs.Common.{◌≡◌, ℕ, zero, suc, ◌+◌, ◌-◌, ◌*◌, ◌/◌, ◌%◌, ◌<◌, ◌≤◌, true, cond, leb, List, [], ◌∷◌, ◌++◌, map, length, take, drop, Ok, Err, Result, sym, refl, ap, ◌∙◌, subst, mul-le-mul_left, mul-zero, mul-suc, arith, length-append, length-drop}
 use native.Mathlib.Nat.{min-le_left, mul-div-le}
-use lib.ListN.{length-replicate}
-use Rattle.std.proofs.lemmas.List.{drop_at, take_at, get_or_at, append_assoc, length_push, length-take, map-append, take-map, drop-map, take-append-drop, nil_from_length, length-map}
+use Rattle.std.proofs.lemmas.List.{drop_at, take_at, append_assoc, length-take, map-append, take-map, drop-map, take-append-drop, nil_from_length, length-map}
 use Rattle.std.proofs.ByRecursion.{All-take, All-drop}
 use Rattle.std.proofs.lemmas.Bool.{cond-true, le-leb}
 use Rattle.std.specs.List.{AllByRecursion}
@@ -22,13 +22,7 @@ use Rattle.capture.proofs.Seals.{sealed_sum}
 
 -- a two-byte field behind n bytes
 word_at_lem : (p ys : List ℕ) (w n : ℕ) → length p ≡ n → w < 65536 → word_at (p ++ (word_bytes w ++ ys)) n ≡ w
-word_at_lem p ys w n e h =
-    let lo : get_or (p ++ (word_bytes w ++ ys)) n 0 ≡ w % 256 = get_or_at p (w % 256) ((w / 256 % 256) ∷ ys) 0 n e in
-    let hi : get_or (p ++ (word_bytes w ++ ys)) (n + 1) 0 ≡ w / 256 % 256 =
-    ap (λ (xs : List ℕ). get_or xs (n + 1) 0) (sym (append_assoc p ((w % 256) ∷ []) ((w / 256 % 256) ∷ ys)))
-    ∙ get_or_at (p ++ (w % 256) ∷ []) (w / 256 % 256) ys 0 (n + 1) (length_push p (w % 256) ∙ ap (λ (j : ℕ). j + 1) e)
-    in
-    omega (arith, lo, hi)
+word_at_lem p ys w n e h = search (arith, common_steps)
 
 low_address : (p : Plain) → lawful p ≡ true → p.address < 65536
 low_address p e = search rules
@@ -59,12 +53,10 @@ first_written s x p rest ha hw =
     ap first_plain e0 ∙ (ap (λ (n : ℕ). plain p.kind p.mark n (word_at full (h + 2))) ea ∙ ap (λ (n : ℕ). plain p.kind p.mark a n) ew)
 
 added_written : (x : List ℕ) (p : Plain) (rest : List ℕ) → take ((4 + length x) - 4) ((x ++ (word_bytes p.address ++ word_bytes p.word)) ++ rest) ≡ x
-added_written x p rest =
-    let n : length x ≡ (4 + length x) - 4 = omega arith in
-    ap (λ (t : List ℕ). take ((4 + length x) - 4) t) (append_assoc x (word_bytes p.address ++ word_bytes p.word) rest) ∙ take_at x _ ((4 + length x) - 4) n
+added_written x p rest = search (arith, common_steps)
 
 pub length-record : (w : Written) → length (record_bytes w) ≡ 8 + length w.entry.added
-length-record w = omega (arith, length-append w.entry.added (word_bytes w.entry.plain.address ++ word_bytes w.entry.plain.word))
+length-record w = search (arith, common_steps)
 
 one_written : (w : Written) (rest : List ℕ) → Fits w → one_read (record_bytes w ++ rest) ≡ Ok w.entry
 one_written w rest f =
@@ -99,16 +91,16 @@ read_written (w ∷ ws) rest f =
     ap (λ (q : Answer). and_then (one_read (record_bytes w ++ F)) q) skip ∙ ap (λ (o : Result Entry Refusal). and_then o (Ok (map entry_of ws ++ rest))) (one_written w F f.0)
 
 length-unsealed : (b : ℕ) (body unused : List ℕ) → length body + length unused ≡ 506 → length (unsealed b body unused) ≡ 510
-length-unsealed b body unused h = omega (arith, length-append body unused)
+length-unsealed b body unused h = search (arith, common_steps)
 
 pub length-sealed : (b : ℕ) (body unused : List ℕ) → length body + length unused ≡ 506 → length (sealed (unsealed b body unused)) ≡ 512
 unfolding sealed
-length-sealed b body unused h = length-append (unsealed b body unused) (word_bytes _) ∙ omega (arith, length-unsealed b body unused h)
+length-sealed b body unused h = search (arith, common_steps)
 
 -- the record bytes of a block, read back
 pub body_of_lem : (b : ℕ) (body unused : List ℕ) (m : ℕ) → m ≡ length body → take m (drop 4 (sealed (unsealed b body unused))) ≡ body
 unfolding sealed
-body_of_lem b body unused m e = ap (λ (xs : List ℕ). take m xs) (append_assoc body unused (word_bytes _)) ∙ take_at body _ m (sym e)
+body_of_lem b body unused m e = search (arith, common_steps)
 
 number_of : (b : ℕ) (body unused : List ℕ) → b < 65536 → word_at (sealed (unsealed b body unused)) 0 ≡ b
 unfolding sealed
@@ -197,7 +189,7 @@ joined_fits size n recs h s =
     omega (arith, length-joined size (take n recs) (All-take (λ r. length r ≡ size) n recs s), mul-le-mul_left size m)
 
 pub zeros_fill : (body : List ℕ) → length body ≤ 506 → length body + length (zeros_after body) ≡ 506
-zeros_fill body h = omega (arith, length-replicate {A = ℕ} (506 - length body) 0)
+zeros_fill body h = search (arith, common_steps)
 
 sheets_fill : (size n : ℕ) → size * n ≤ 506 → (k : ℕ) (ws : List Written) → AllByRecursion Fits ws → Sized size (map record_bytes ws) → AllByRecursion Fills (sheets_of n k ws)
 unfolding sheets_of

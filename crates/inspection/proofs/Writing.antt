@@ -1,4 +1,5 @@
 -- A line as it grows.
+use Rattle.std.proofs.lemmas.Grind.{common_steps}
 use Rattle.std.proofs.Common.{rules}
 use Rattle.std.proofs.Common.{◌≡◌, ℕ, suc, ◌+◌, ◌-◌, ◌/◌, ◌%◌, ◌^◌, ◌<◌, ◌≤◌, true, false, Option, inl, inr, Some, arith, List, [], ◌∷◌, ◌++◌, length, get_or, take, sym, ap, ◌∙◌}
 use Rattle.std.proofs.lemmas.List.{take_more, append_assoc, append-nil}
@@ -13,8 +14,7 @@ text_push [] b = append-nil (hex_text b)
 text_push (x ∷ xs) b = ap (λ (ys : List ℕ). hex_text x ++ ys) (text_push xs b) ∙ sym (append_assoc (hex_text x) (bytes_text xs) (hex_text b))
 
 grown : (base old more s0 s1 piece : List ℕ) → s0 ≡ base ++ old → s1 ≡ s0 ++ piece → more ≡ old ++ piece → s1 ≡ base ++ more
-grown base old more s0 s1 piece e f g =
-    f ∙ (ap (λ (ys : List ℕ). ys ++ piece) e ∙ (append_assoc base old piece ∙ ap (λ (ys : List ℕ). base ++ ys) (sym g)))
+grown base old more s0 s1 piece e f g = search (arith, common_steps)
 
 -- one byte more, in digits
 pub digits_more : (base xs s0 s1 piece : List ℕ) (i : ℕ) → i < length xs → s0 ≡ base ++ bytes_text (take i xs) → s1 ≡ s0 ++ piece → piece ≡ hex_text (get_or xs i 0) → s1 ≡ base ++ bytes_text (take (i + 1) xs)

@@ -1,4 +1,5 @@
 -- A block as its parts are written one after another.
+use Rattle.std.proofs.lemmas.Grind.{common_steps}
 use Rattle.std.proofs.Common.{◌≡◌, ℕ, ◌+◌, ◌-◌, ◌≤◌, List, ◌++◌, length, take, drop, replicate, ap, ◌∙◌, arith, length-append, length-drop}
 use borrow.Rule.Slice.PartMut.{put_mid, post_of}
 use Rattle.std.proofs.lemmas.List.{length-take-le, length-replicate}
@@ -12,19 +13,7 @@ record Put (p e : ℕ) (xs ys new : List ℕ) : Type 0 where
   pub long : length new ≡ length xs
 
 put : (p e : ℕ) (xs ys : List ℕ) → e ≡ p + length ys → e ≤ length xs → Put p e xs ys (put_mid p (e - p) xs ys)
-put p e xs ys h l =
-    record {
-      front = take-put_mid p (e - p) xs ys e h (omega arith);
-      long =
-          omega (
-            arith,
-            length-append (take p xs) (ys ++ post_of p (e - p) xs),
-            length-append ys (post_of p (e - p) xs),
-            length-take-le p xs (omega arith),
-            length-drop p xs,
-            length-drop (e - p) (drop p xs),
-          );
-    }
+put p e xs ys h l = search (arith, common_steps)
 
 joined : (A U B R Z a u b r z : List ℕ) → A ≡ a → U ≡ u → B ≡ b → R ≡ r → Z ≡ z → (((A ++ U) ++ B) ++ R) ++ Z ≡ (((a ++ u) ++ b) ++ r) ++ z
 joined A U B R Z a u b r z eA eU eB eR eZ = cc

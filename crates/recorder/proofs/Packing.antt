@@ -1,4 +1,5 @@
 -- Records packed into blocks, one after another.
+use Rattle.std.proofs.lemmas.Grind.{common_steps}
 use Rattle.std.proofs.Common.{rules}
 use Rattle.std.proofs.Common.{◌≡◌, ℕ, zero, suc, ◌+◌, ◌-◌, ◌*◌, ◌/◌, ◌%◌, ◌<◌, ◌≤◌, true, cond, ltb, List, [], ◌∷◌, ◌++◌, map, length, take, drop, Ok, Err, sym, refl, ap, ◌∙◌, subst, inl, inr, add-zero, mod-eq_of_lt, mul-zero, zero-add, mul-suc, add-one, arith, length-append, length-drop}
 use native.Mathlib.Nat.{add-mod_right, div-eq_of_lt, add-div_right}
@@ -30,8 +31,7 @@ joined_push [] r = append-nil r
 joined_push (x ∷ xs) r = ap (λ (ys : List ℕ). x ++ ys) (joined_push xs r) ∙ sym (append_assoc x (joined xs) r)
 
 edited_here : (f : List ℕ → List ℕ) (B L : List ℕ) → length B ≡ 512 → edited f 0 (B ++ L) ≡ f B ++ L
-edited_here f B L h =
-    ap (λ (xs : List ℕ). f xs ++ drop 512 (B ++ L)) (take_at B L 512 h) ∙ ap (λ (xs : List ℕ). f B ++ xs) (drop_at B L 512 h)
+edited_here f B L h = search (arith, common_steps)
 
 drop_past : (B L : List ℕ) (o : ℕ) → length B ≡ 512 → drop (512 + o) (B ++ L) ≡ drop o L
 drop_past B L o h = sym (drop-drop o 512 (B ++ L)) ∙ ap (λ (xs : List ℕ). drop o xs) (drop_at B L 512 h)
