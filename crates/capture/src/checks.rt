@@ -48,7 +48,7 @@ pub fn checksum(block: &[u8]) -> u16
     sum
 }
 
-// Whether a record of this kind may have these fields.
+// Whether a record of this kind may have these fields. The mark is asked as it stands, since bytes other than 0 and 1 are refused.
 fn fields_allowed(kind: Kind, mark: u8, address: u16, word: u16) -> bool
     ensures { result ≡ lawful (plain (kind_number kind) mark address word) }
 {

@@ -7,6 +7,7 @@ ghost use Rattle.capture.specs.Remaining.{block_at, remains};
 
 // Only a check makes one that holds records. The next record stands in `block` or after it, from byte `from` of its record
 // bytes on; `used` records were handed out.
+// Places are numbers beside the bytes, since what is left is defined by block and byte of the whole capture.
 #[derive(Drop)]
 pub struct Feed<'a> {
     pub(crate) bytes: &'a [u8],

@@ -99,6 +99,7 @@ impl<'a> Feed<'a> {
     {
         let (blocks, _) = self.bytes.as_chunks::<BLOCK>();
         let mut from = self.from;
+        // By number: the place that is answered is one, and the blocks before the feed's own are left out.
         for block in self.block..blocks.len() {
             let bytes = used_bytes(&blocks[block]);
             if from < bytes.len() {

@@ -6,6 +6,7 @@ ghost use Rattle.capture.specs.Exchanges.{exchange_of};
 use bus::{Exchange, Request};
 
 // A record of a checked capture. `added` is what its header has beyond four bytes, as a part of the capture.
+// `answered` stands beside a word or byte that was sent, not answered, so the two are no `Option`.
 #[derive(Clone, Copy)]
 pub enum Record<'a> {
     Read {

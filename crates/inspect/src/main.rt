@@ -14,15 +14,13 @@ const NAME: &str = "capture.cap";
 fn print_refusal(rt: &HostRuntime, refusal: Refusal, bytes: &[u8]) -> io::Result<()> {
     let number = refusal.number();
     let block = refused_block(bytes);
-    if let Refusal::Blocks = refusal {
-        return println!(rt; "refused {number}: {refusal}");
+    match bytes.get(BLOCK * block..) {
+        Some(rest) if refusal != Refusal::Blocks => {
+            let byte = refused_byte(refusal, rest);
+            println!(rt; "refused {number}, block {block}, byte {byte}: {refusal}")
+        }
+        _ => println!(rt; "refused {number}: {refusal}"),
     }
-    let start = BLOCK * block;
-    if start > bytes.len() {
-        return println!(rt; "refused {number}: {refusal}");
-    }
-    let byte = refused_byte(refusal, &bytes[start..]);
-    println!(rt; "refused {number}, block {block}, byte {byte}: {refusal}")
 }
 
 fn print_totals(rt: &HostRuntime, records: usize, totals: Totals) -> io::Result<()> {
@@ -43,6 +41,7 @@ fn print_totals(rt: &HostRuntime, records: usize, totals: Totals) -> io::Result<
 // Prints a line for each record that is left, and then the totals.
 fn print_records(rt: &HostRuntime, heap: Global, feed: &mut Feed) -> io::Result<()> {
     let mut totals = Totals::default();
+    // No `for`, since each turn asks the feed how many records it has handed out.
     while let Some(record) = feed.next() {
         totals.count(record);
         let line = record_line(heap, feed.used(), record)?;

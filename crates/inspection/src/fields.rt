@@ -8,7 +8,7 @@ ghost use Rattle.inspection.specs.Texts.{kind_text, mark_text, octal_text, hex_d
 
 use capture::{Kind, Record};
 
-// A record as records are compared; `answered` is its mark.
+// A record as records are compared; `answered` is its mark, and `word` may be one that was sent, so the two are no `Option`.
 #[derive(Clone, Copy, PartialEq, Eq, Debug)]
 pub struct Fields {
     pub kind: Kind,
@@ -61,7 +61,7 @@ pub fn fields_of(rec: Record) -> Fields
     }
 }
 
-// A kind in words.
+// A kind in words, by its number: every number has a text, as it stands in a line.
 pub fn kind_text(kind: u8) -> &'static str
     ensures { result.now ≡ kind_text kind }
 {

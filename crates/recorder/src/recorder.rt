@@ -3,7 +3,7 @@ ghost use Rattle.std.specs.Prelude.{◌≡◌, ◌*◌, ◌≤◌, true, length}
 ghost use Rattle.capture.specs.Lawful.{all_writable};
 ghost use Rattle.recorder.specs.Recording.{header_allowed, laid, places, found_in};
 
-// The lent buffer, and how many records stand in it.
+// The lent buffer, and how many records stand in it: the project fixes a lent buffer and plain numbers for recorders.
 #[derive(Drop)]
 pub(crate) struct Sheets<'a> {
     pub(crate) buffer: &'a mut [u8],
