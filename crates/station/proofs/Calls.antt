@@ -15,8 +15,6 @@ use Rattle.station.specs.declared.call.Refusal.{Refusal}
 use Rattle.station.specs.declared.call.Refusal.TheVariants.{NoPlace, SideGone}
 use Rattle.station.specs.declared.call.End.TheVariants.{AllSteps, NoPlace as EndNoPlace}
 use Rattle.station.specs.declared.call.Run.{Run}
-use Rattle.station.specs.declared.call.Said.{Said}
-use Rattle.station.specs.declared.call.Said.TheVariants.{OfJob, OfRun}
 use Rattle.station.specs.declared.call.Pace.TheVariants.{On}
 use Rattle.station.specs.Stations.{Kept, station, Took, tells, jobs, unless, runs, pace, paced, onward, unread, lost_job, asked_step, asked_restart}
 use Rattle.bus.proofs.Feeding.{more, ext}
@@ -99,8 +97,9 @@ run_all place n s0 rs k s le w = record {
   kept = w.kept;
 }
 
-pub run_done : (place : ℕ → Bool) (n : ℕ) (rs : List Exchange) (s s2 : Kept) (a : Run) → Took (runs place n 0) rs s a s2 → Took {A = Result Run Refusal} (λ x. (Ok (runs place n 0 x).0, (runs place n 0 x).1)) rs s (Ok a) s2
-run_done place n rs s s2 a d = record { as_played = ap (λ x. (Ok x.0, x.1)) d.as_played; kept = d.kept }
+-- the same with another answer made of each
+pub took_map : {A B : Type 0} (g : A → B) (f : Standing → A × Standing) (rs : List Exchange) (s s2 : Kept) (a : A) → Took f rs s a s2 → Took (λ x. (g (f x).0, (f x).1)) rs s (g a) s2
+took_map g f rs s s2 a d = record { as_played = ap (λ x. (g x.0, x.1)) d.as_played; kept = d.kept }
 
 lost_of : Option Refusal → Bool
 lost_of None = false
@@ -127,9 +126,3 @@ keeps_restart Ended = refl
 pub not_lost_restart : (l : Life) (r : Refusal) → Some r ≡ asked_restart l → lost_job (Err r) ≡ false
 unfolding lost_of
 not_lost_restart l r e = ap lost_of e ∙ keeps_restart l
-
-pub shorts : (f : Standing → Result Answer Refusal × Standing) (rs : List Exchange) (s s2 : Kept) (a : Result Answer Refusal) → Took f rs s a s2 → Took {A = Said} (λ x. (OfJob (f x).0, (f x).1)) rs s (OfJob a) s2
-shorts f rs s s2 a d = record { as_played = ap (λ x. (OfJob x.0, x.1)) d.as_played; kept = d.kept }
-
-pub longs : (f : Standing → Result Run Refusal × Standing) (rs : List Exchange) (s s2 : Kept) (a : Result Run Refusal) → Took f rs s a s2 → Took {A = Said} (λ x. (OfRun (f x).0, (f x).1)) rs s (OfRun a) s2
-longs f rs s s2 a d = record { as_played = ap (λ x. (OfRun x.0, x.1)) d.as_played; kept = d.kept }
