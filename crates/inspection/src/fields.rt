@@ -1,5 +1,5 @@
 // The fields by which records are compared, and their texts.
-ghost use Rattle.std.specs.Prelude.{◌≡◌, ◌<◌, ◌≤◌, if◌then◌else◌};
+ghost use Rattle.std.specs.Prelude.{◌≡◌, ◌<◌, if◌then◌else◌};
 ghost use Rattle.capture.specs.Kinds.{kind_number};
 ghost use Rattle.capture.specs.Records.{plain};
 ghost use Rattle.capture.specs.Exchanges.{mark_of, answered_word};

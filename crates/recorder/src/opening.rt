@@ -1,5 +1,5 @@
 // Opening a recorder: the questions, and then the making, which fills the buffer with empty blocks.
-ghost use Rattle.std.specs.Prelude.{◌≡◌, ◌+◌, ◌-◌, ◌*◌, ◌/◌, ◌%◌, ◌≤◌, [], ◌++◌, length, take, drop, replicate, is_ok, if◌then◌else◌};
+ghost use Rattle.std.specs.Prelude.{◌≡◌, ◌+◌, ◌*◌, ◌/◌, ◌≤◌, [], ◌++◌, length, take, is_ok, if◌then◌else◌};
 ghost use Rattle.capture.specs.Blocks.{sealed, unsealed, zeros_after, block_bytes};
 ghost use Rattle.recorder.specs.Recording.{laid};
 ghost use Rattle.recorder.specs.Opening.{opening, opening_number};
