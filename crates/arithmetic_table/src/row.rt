@@ -1,7 +1,13 @@
 // A row of the table: an operation, its operands, and what it must leave.
+ghost use Rattle.std.specs.Prelude.{◌≤◌};
+
 use crate::name::Operation;
 use arithmetic::{Flags, Outcome};
 use isa::FlagChange;
+
+const OCTAL: u32 = 8;
+
+const BINARY: u32 = 2;
 
 // The flags stand as the number that they are in the low bits of a status word.
 #[derive(Clone, Copy)]
@@ -14,16 +20,16 @@ pub struct Row {
     flags: u16,
 }
 
-fn octal(field: &str) -> Option<u16> {
-    u16::from_str_radix(field, 8).ok()
-}
-
-fn binary(field: &str) -> Option<u16> {
-    u16::from_str_radix(field, 2).ok()
+// A field in digits of a base.
+fn number(field: &str, base: u32) -> Option<u16>
+    requires least { 2 ≤ base }
+    requires most { base ≤ 36 }
+{
+    u16::from_str_radix(field, base).ok()
 }
 
 fn change_of(word: u16) -> FlagChange {
-    if word >= 0o260 {
+    if word >= FlagChange::Set as u16 {
         FlagChange::Set
     } else {
         FlagChange::Clear
@@ -43,14 +49,14 @@ impl Row {
     pub(crate) fn parse(line: &str) -> Option<Row> {
         let mut fields = line.split_whitespace();
         let operation = Operation::named(fields.next()?)?;
-        let source = octal(fields.next()?)?;
-        let destination = octal(fields.next()?)?;
-        let old = binary(fields.next()?)?;
+        let source = number(fields.next()?, OCTAL)?;
+        let destination = number(fields.next()?, OCTAL)?;
+        let old = number(fields.next()?, BINARY)?;
         let result = match fields.next()? {
             "none" => None,
-            field => Some(octal(field)?),
+            field => Some(number(field, OCTAL)?),
         };
-        let flags = binary(fields.next()?)?;
+        let flags = number(fields.next()?, BINARY)?;
         Some(Row {
             operation,
             source,

@@ -1,4 +1,5 @@
-// Accesses at an address: the board's below the cabinet page, the cabinet side's on it.
+// Accesses at an address: the board's below the cabinet page, the cabinet side's on it. Board and side are two
+// parameters: each access takes one of them alone.
 ghost use Rattle.bus.specs.Courses.{Played};
 ghost use Rattle.bus.specs.Accesses.{loads, stores, stores_byte};
 

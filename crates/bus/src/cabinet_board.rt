@@ -53,7 +53,7 @@ impl<'a> CabinetBoard<'a> {
     }
 }
 
-// Beside the flat board's, not one with it: where each part begins and ends, and what is there, is all that a board is.
+// Not one with the flat board's: words are put by the same functions, and the bounds, which are left, differ.
 impl Board for CabinetBoard<'_> {
     ghost meaning = { λ b. cabinet_board b.ram.now b.rom.now };
 

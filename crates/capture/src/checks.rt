@@ -96,7 +96,7 @@ pub fn check_record(bytes: &[u8]) -> Result<(), Refusal>
     Ok(())
 }
 
-// The questions of records one after another.
+// The questions of records one after another. Each says where the next begins, so no iterator of the library steps over them.
 fn check_records(bytes: &[u8]) -> Result<(), Refusal>
     ensures { result ≡ verdict (read_then 0 bytes.now (Ok [])) }
 {

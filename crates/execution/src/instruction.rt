@@ -62,7 +62,7 @@ pub fn execute_on<B: Board, C: Cabinet>(
     }
 }
 
-// The same, with the machine's parts lent one by one.
+// The same, for callers that lend the machine's parts one by one.
 pub fn execute<B: Board, C: Cabinet>(
     p: &mut Processor,
     board: &mut B,

@@ -30,7 +30,7 @@ pub fn push_on<B: Board, C: Cabinet>(
     store(machine.board, machine.side, at, word)
 }
 
-// The same, with the machine's parts lent one by one.
+// The same, for callers that lend the machine's parts one by one.
 pub fn push<B: Board, C: Cabinet>(
     p: &mut Processor,
     board: &mut B,

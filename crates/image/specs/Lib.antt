@@ -1,3 +1,4 @@
 pub mod Arguments
 pub mod Images
 pub mod Numerals
+pub mod Faults

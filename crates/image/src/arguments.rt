@@ -1,9 +1,10 @@
 // The arguments that say where to begin in an image and how many instructions to take.
-ghost use Rattle.std.specs.Prelude.{◌≡◌};
+ghost use Rattle.std.specs.Prelude.{◌≡◌, Some};
 ghost use Rattle.image.specs.Arguments.{address_in, count_in};
+ghost use Rattle.image.specs.Faults.{address_text, count_text};
 
 use crate::numerals::{is_numeral, value};
-use thiserror::Error;
+use std::fmt;
 
 const OCTAL: u32 = 8;
 
@@ -13,28 +14,48 @@ const DECIMAL: u32 = 10;
 pub const MOST_INSTRUCTIONS: u16 = 32_768;
 
 // Why a text is no address of an instruction; asked in this order.
-#[derive(Clone, Copy, Debug, Error)]
+#[derive(Clone, Copy, Debug)]
 pub enum AddressFault {
     // It is empty, or has another character than the digits 0 to 7.
-    #[error("the address is not octal")]
     NotOctal,
     // It is above 177777.
-    #[error("the address is too large")]
     TooLarge,
     // No instruction begins at an odd address.
-    #[error("the address is odd")]
     Odd,
 }
 
 // Why a text is no count of instructions; asked in this order.
-#[derive(Clone, Copy, Debug, Error)]
+#[derive(Clone, Copy, Debug)]
 pub enum CountFault {
     // It is empty, or has another character than the digits 0 to 9.
-    #[error("the count is not a decimal number")]
     NotDecimal,
     // It is 0 or above 32,768.
-    #[error("the count is out of range")]
     OutOfRange,
+}
+
+// What is wrong with the text, in words.
+impl fmt::Display for AddressFault {
+    ghost output = { λ fault. Some (address_text fault) };
+
+    fn fmt<W: fmt::Write>(&self, f: &mut fmt::Formatter<W>) -> fmt::Result {
+        f.write_str(match self {
+            AddressFault::NotOctal => "the address is not octal",
+            AddressFault::TooLarge => "the address is too large",
+            AddressFault::Odd => "the address is odd",
+        })
+    }
+}
+
+// What is wrong with the text, in words.
+impl fmt::Display for CountFault {
+    ghost output = { λ fault. Some (count_text fault) };
+
+    fn fmt<W: fmt::Write>(&self, f: &mut fmt::Formatter<W>) -> fmt::Result {
+        f.write_str(match self {
+            CountFault::NotDecimal => "the count is not a decimal number",
+            CountFault::OutOfRange => "the count is out of range",
+        })
+    }
 }
 
 // The even address that octal digits write.

@@ -4,6 +4,7 @@ ghost use Rattle.image.specs.Numerals.{digit, digits, numeral, number_of, up_to}
 
 const ZERO: u8 = b'0';
 
+// By hand, since the library's `char::is_digit` takes the letters of larger bases too.
 fn is_digit(base: u32, byte: u8) -> bool
     ensures { result ≡ digit base byte }
 {

@@ -1,6 +1,5 @@
 -- Where a refusal is found, one block and one record at a time.
-use Rattle.std.proofs.Common.{rules}
-use Rattle.std.proofs.Common.{◌≡◌, ℕ, zero, suc, ◌+◌, ◌-◌, ◌*◌, ◌/◌, ◌<◌, ◌≤◌, Bool, true, false, cond, List, [], ◌∷◌, length, get_or, take, drop, is_err, Result, sym, refl, ap, ◌∙◌, arith}
+use Rattle.std.proofs.Common.{◌≡◌, ℕ, zero, suc, ◌+◌, ◌-◌, ◌*◌, ◌/◌, ◌<◌, ◌≤◌, Bool, cond, List, [], ◌∷◌, length, get_or, take, drop, is_err, Result, sym, refl, ap, ◌∙◌, arith}
 use Rattle.std.proofs.lemmas.List.{drop-drop, get_or-take}
 use Rattle.std.specs.Simd.{first_chunks}
 use Rattle.capture.specs.declared.refusal.Refusal.{Refusal}
@@ -39,10 +38,3 @@ asked xs blocks k b t r h m e f g =
     get_or-take k blocks b [] h ∙ (ap (λ (bs : List (List ℕ)). get_or bs b []) e ∙ chunk_at (length xs / 512) b xs (omega arith))
     in
     ap (λ (ys : List ℕ). is_err (block_verdict b ys)) (sym c) ∙ (ap is_err (sym g) ∙ sym f)
-
--- a refused one is the first; after one that passes the search goes on
-pub stop : (t : Bool) (here there all : ℕ) → t ≡ true → cond t here there ≡ all → here ≡ all
-stop t here there all h e = search rules
-
-pub go_on : (t : Bool) (here there all : ℕ) → t ≡ false → cond t here there ≡ all → there ≡ all
-go_on t here there all h e = search rules

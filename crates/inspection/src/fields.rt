@@ -61,7 +61,7 @@ pub fn fields_of(rec: Record) -> Fields
     }
 }
 
-// A kind in words, by its number: every number has a text, as it stands in a line.
+// A kind in words, by its number. It takes no Kind: callers may give any number, and each has a text.
 pub fn kind_text(kind: u8) -> &'static str
     ensures { result.now ≡ kind_text kind }
 {
@@ -75,6 +75,7 @@ pub fn kind_text(kind: u8) -> &'static str
     }
 }
 
+// A mark in words. No Display, since what is shown is a bool.
 pub fn mark_text(answered: bool) -> &'static str
     ensures { result.now ≡ mark_text (if answered then 1 else 0) }
 {
@@ -88,6 +89,7 @@ pub fn octal(word: u16) -> [u8; 6]
     listing::octal(word)
 }
 
+// By hand: the library's `char::from_digit` answers an Option, and in small letters.
 fn hex_digit(digit: u8) -> u8
     requires { digit < 16 }
     ensures { result ≡ hex_digit digit }

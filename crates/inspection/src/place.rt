@@ -12,6 +12,7 @@ pub fn refused_block(bytes: &[u8]) -> usize
 {
     let (blocks, _) = bytes.as_chunks::<BLOCK>();
     let blocks = &blocks[..blocks.len().min(MOST_BLOCKS)];
+    // A `for`, since `find` over numbers would name each block by its index again.
     for (number, block) in blocks.iter().enumerate() {
         if check_block(number as u16, block).is_err() {
             return number;
@@ -20,7 +21,7 @@ pub fn refused_block(bytes: &[u8]) -> usize
     blocks.len()
 }
 
-// The place in its block of the first refused record of these bytes, or of their end.
+// The place in its block of the first refused record of these bytes, or of their end. Each record says where the next begins.
 fn refused_record(bytes: &[u8]) -> usize
     ensures { result ≡ record_from 4 0 bytes.now }
 {

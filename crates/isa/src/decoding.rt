@@ -1,4 +1,4 @@
-// What an instruction word says, digit by digit.
+// What an instruction word says, digit by digit. Digits are matched: nothing derives the way back from a number to its variant.
 ghost use Rattle.std.specs.Prelude.{◌≡◌};
 ghost use Rattle.isa.specs.Reading.{register, mode, operand, offset, mask, double, five, low_condition, low_branch, high_condition, high_branch};
 ghost use Rattle.isa.specs.Reading.{control, returns, return_or_flags, zeros, word_sixes, byte_sixes, low, traps, high, sevens, reading};
@@ -34,7 +34,6 @@ pub fn decode(word: u16) -> Instruction
     }
 }
 
-// What a digit stands for is a match here and below: nothing derives the way back from a number to its variant.
 fn register_at(digit: u16) -> Register
     ensures { result ≡ register digit }
 {

@@ -41,6 +41,7 @@ pub fn encode(instruction: Instruction) -> u16
     }
 }
 
+// The two digits of an operand. Its variants carry a register, so the mode digit cannot be their own number.
 fn operand_digits(operand: Operand) -> u16
     ensures value { result ≡ bits operand }
     ensures digits { result < 0o100 }

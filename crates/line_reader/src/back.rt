@@ -8,7 +8,7 @@ use listing::lister::{LONGEST_LINE, line_of};
 use listing::{Refusal, list};
 
 // The words that a line shows, then zeros; beside a refusal all are zero. The words are a plain value and the refusal stands
-// beside them: a form that the project fixes (docs/DECISIONS.md, 19).
+// beside them: a form that the project fixes.
 #[derive(Clone, Copy)]
 pub struct ReadBack {
     pub words: [u16; 3],

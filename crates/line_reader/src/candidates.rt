@@ -10,6 +10,7 @@ use crate::operands::operand_in;
 use crate::parsed::{Mnemonic, Numbered, OneOperand, Parsed, RegisterFirst, TwoOperands};
 use isa::{Instruction, Operand, Register, Size, encode};
 
+// The size stands beside a name, not in it: names are told by three letters, the size by the fourth.
 fn one_instruction(name: OneOperand, size: Size, operand: Operand) -> Instruction
     ensures { result ≡ one_instruction name size operand }
 {

@@ -26,7 +26,8 @@ pub fn line_of(address: u16, words: [u16; 3]) -> Line
     instruction_line(address, words, decode(words[0]))
 }
 
-// Writes the listing of the instruction word and its index words, `words`, at the front of `out`.
+// Writes the listing of the instruction word and its index words, `words`, at the front of `out`. Address, words by value and
+// bytes of the caller are what a C host can pass.
 pub fn list(address: u16, words: [u16; 3], out: &mut [u8]) -> Result<Listed, Refusal>
     ensures answer { result ≡ listing address words out.old }
     ensures in_numbers { numbered result ≡ numbers address words out.old }

@@ -2,7 +2,7 @@
 ghost use Rattle.std.specs.Prelude.{◌≡◌};
 ghost use Rattle.listing.specs.Text.{octal};
 
-// A number in six octal digits.
+// A number in six octal digits, in an array: a library has no heap to print into.
 pub fn octal(number: u16) -> [u8; 6]
     ensures { result ≡ octal number }
 {

@@ -11,7 +11,7 @@ pub(crate) fn branch_target(address: u16, offset: i8) -> u16
         .wrapping_add_signed(2 * i16::from(offset))
 }
 
-// SOB at `address` goes back by `count` words from the word behind it.
+// SOB at `address` goes back by `count` words from the word behind it. No twin of the branch's: its count has no sign.
 pub(crate) fn loop_target(address: u16, count: u8) -> u16
     ensures { result ≡ loop_target address count }
 {

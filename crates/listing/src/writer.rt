@@ -34,7 +34,7 @@ impl Line {
         self.put_bytes(more.as_bytes());
     }
 
-    // Copies the line to the front of `out`, and answers its length.
+    // Copies the line to the front of `out`, and answers its length: a library has no heap to give a text.
     pub(crate) fn copy_to(self, out: &mut [u8]) -> usize
         requires { 28 ≤ length out.old }
         ensures written { out.new ≡ shown self ++ drop (length (shown self)) out.old }

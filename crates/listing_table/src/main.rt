@@ -6,7 +6,7 @@ use line_reader::read_back;
 use listing::list;
 use listing::lister::LONGEST_LINE;
 
-// What a row of the table says.
+// What a row of the table says. Three words are one plain value throughout; `used` says how many of them its text shows.
 #[derive(Drop)]
 struct Row<'a> {
     address: u16,

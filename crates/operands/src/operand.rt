@@ -10,7 +10,7 @@ use crate::state::Processor;
 use bus::{Board, Cabinet, Gone, load, store, store_byte};
 use isa::{Operand, Register, Size};
 
-// Where an operand lies.
+// Where an operand lies. The size of an access stands beside it, since that is the instruction's.
 #[derive(Clone, Copy)]
 pub enum Location {
     InRegister(Register),
@@ -35,6 +35,7 @@ fn half_of(at: u16, word: u16) -> u16
     u16::from(word.to_le_bytes()[usize::from(at % 2)])
 }
 
+// No machine, here and in `load_byte`: the processor has no part in them.
 #[tactic(auto, unfolding(crate::specs::Operands::points))]
 fn point<B: Board, C: Cabinet>(
     board: &mut B,

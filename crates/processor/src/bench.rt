@@ -83,6 +83,7 @@ fn restart<B: Board, C: Cabinet>(
     Ok(Answer::WentOn)
 }
 
+// The machine is made here: one made in `perform`, over the guard's loan, is not covered by the borrow check.
 fn work<B: Board, C: Cabinet>(
     p: &mut Processor,
     board: &mut B,

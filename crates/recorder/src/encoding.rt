@@ -8,7 +8,7 @@ use bus::{Exchange, PAGE, Request};
 use capture::Kind;
 use capture::checks::MOST_LINES;
 
-// The header length without added bytes, and with the rig's number.
+// The header length without added bytes, and with the rig's number: plain numbers, as a rig holds them.
 pub(crate) const PLAIN_HEADER: u8 = 4;
 
 pub(crate) const NUMBERED_HEADER: u8 = 6;

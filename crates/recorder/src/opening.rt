@@ -68,7 +68,7 @@ fn fill_empty(buffer: &mut [u8], blocks: usize)
     requires { (length buffer.old ≡ 512 * blocks) × (blocks ≤ 4096) }
     ensures { buffer.new ≡ empty_blocks 0 blocks }
 {
-    // By index: of chunks_exact_mut and first_chunk_mut the library does not say what the buffer ends as.
+    // By index: of chunks_exact_mut and as_chunks_mut the library does not say what the buffer ends as.
     for b in 0..blocks {
         buffer[BLOCK * b..BLOCK * b + BLOCK].copy_from_slice(&block_of(b as u16, &[], &[]));
     }

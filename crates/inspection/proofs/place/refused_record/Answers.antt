@@ -1,7 +1,8 @@
 use Rattle.std.proofs.Common.{◌≡◌, ◌+◌, ◌-◌, ◌≤◌, length, drop, get_or, is_err, sym, ap, ◌∙◌, arith, rules, length-drop}
+use Rattle.std.proofs.lemmas.Bool.{cond-false}
 use Rattle.std.proofs.lemmas.List.{take_rest}
 use Rattle.inspection.specs.Places.{record_from}
-use Rattle.inspection.proofs.Finding.{record_first, go_on}
+use Rattle.inspection.proofs.Finding.{record_first}
 use Rattle.capture.specs.Checking.{one_read, verdict}
 use Rattle.inspection.proofs.place.refused_record.Goals as goal
 
@@ -16,6 +17,6 @@ loop-rest-preserved c =
     let t = ap is_err (sym c.check_record.ensures) ∙ c.if-is_ok.ensures.negation in
     rw (take_rest xs n)
     (record {
-      found = ap (λ j. record_from j 0 (drop n xs)) (sym p) ∙ go_on (is_err (verdict (one_read xs))) (4 + (length all - length xs)) _ _ t (sym (record_first (4 + (length all - length xs)) xs (omega arith)) ∙ c.loop-rest.invariant.found);
+      found = ap (λ j. record_from j 0 (drop n xs)) (sym p) ∙ (sym (cond-false (is_err (verdict (one_read xs))) (4 + (length all - length xs)) _ t) ∙ (sym (record_first (4 + (length all - length xs)) xs (omega arith)) ∙ c.loop-rest.invariant.found));
       within = omega (arith, c.loop-rest.invariant.within);
     })
