@@ -39,7 +39,7 @@ fn negate(x: Number) -> Outcome
     Outcome::with_result(value, overflow, value.value != 0)
 }
 
-// ADC: the carry added.
+// ADC: the carry added. Beside INC, which keeps the carry.
 fn add_carry(x: Number, c: bool) -> Outcome
     ensures { result ≡ carry_added x.size x.value c }
 {
@@ -48,7 +48,7 @@ fn add_carry(x: Number, c: bool) -> Outcome
     Outcome::with_result(value, overflow, c && value.value == 0)
 }
 
-// SBC: the carry taken away.
+// SBC: the carry taken away. Beside DEC, which keeps the carry.
 fn subtract_carry(x: Number, c: bool) -> Outcome
     ensures { result ≡ carry_taken x.size x.value c }
 {
