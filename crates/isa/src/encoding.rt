@@ -16,7 +16,7 @@ pub fn encode(instruction: Instruction) -> u16
         Instruction::Flags(change, mask) => change as u16 + mask.bits(),
         Instruction::SwapBytes(destination) => 0o000300 + operand_digits(destination),
         Instruction::Branch(condition, offset) => condition as u16 + low_byte(offset),
-        Instruction::Call(link, target) => with_register(0o004000, link, target),
+        Instruction::Call(link, target) => with_operand(0o004000, link as u16, target),
         Instruction::Single(size, operation, destination) => {
             size as u16 + operation as u16 + operand_digits(destination)
         }
@@ -29,9 +29,9 @@ pub fn encode(instruction: Instruction) -> u16
         }
         Instruction::Add(source, destination) => with_operands(0o060000, source, destination),
         Instruction::Subtract(source, destination) => with_operands(0o160000, source, destination),
-        Instruction::ExclusiveOr(source, destination) => with_register(
+        Instruction::ExclusiveOr(source, destination) => with_operand(
             0o074000,
-            source,
+            source as u16,
             destination,
         ),
         Instruction::Loop(counter, count) => 0o077000 + 0o100 * counter as u16 + six_bits(count),
@@ -67,12 +67,14 @@ fn six_bits(count: u8) -> u16
     (count % 0o100) as u16
 }
 
-// A register digit and an operand after a base.
-fn with_register(base: u16, register: Register, operand: Operand) -> u16
-    requires { base < 0o100000 }
-    ensures { result ≡ base + 0o100 * number register + bits operand }
+// Two digits and an operand after a base.
+fn with_operand(base: u16, digits: u16, operand: Operand) -> u16
+    requires base { base ≤ 0o160000 }
+    requires digits { digits < 0o100 }
+    ensures value { result ≡ base + 0o100 * digits + bits operand }
+    ensures bound { result < base + 0o10000 }
 {
-    base + 0o100 * register as u16 + operand_digits(operand)
+    base + 0o100 * digits + operand_digits(operand)
 }
 
 // Source and destination after a base.
@@ -81,7 +83,7 @@ fn with_operands(base: u16, source: Operand, destination: Operand) -> u16
     ensures value { result ≡ base + 0o100 * bits source + bits destination }
     ensures bound { result < base + 0o10000 }
 {
-    base + 0o100 * operand_digits(source) + operand_digits(destination)
+    with_operand(base, operand_digits(source), destination)
 }
 
 // The low byte that stands for an offset.
