@@ -5,7 +5,7 @@ ghost use Rattle.operands.specs.State.{beside};
 ghost use Rattle.operands.specs.Machines.{Ran};
 ghost use Rattle.execution.specs.Stack.{lowered, pushes, pops};
 
-use bus::{Board, Cabinet, Gone, load, store};
+use bus::{Board, Cabinet, Gone, store};
 use isa::Register;
 use operands::{Machine, Processor};
 
@@ -54,9 +54,5 @@ pub(crate) fn pop<B: Board, C: Cabinet>(
 ) -> Result<Option<u16>, Gone>
     ensures { Ran B.Board C.Cabinet pops machine.old (beside result machine.new.processor.now) machine.new }
 {
-    let at = machine.processor.register(Register::Sp);
-    machine
-        .processor
-        .set_register(Register::Sp, at.wrapping_add(2));
-    load(machine.board, machine.side, at)
+    machine.read_past(Register::Sp)
 }

@@ -13,9 +13,13 @@ use Rattle.operands.specs.declared.operand.Location.{Location}
 use Rattle.operands.specs.declared.operand.Location.TheVariants.{InRegister, InMemory}
 use Rattle.operands.specs.State.{register, with_register, sum, difference, leaving}
 
+-- The word that a register points to, which rises past it as its address is sent.
+abbrev pub reads_past : Register → Processor → Act (Option ℕ × Processor)
+reads_past r p = leaving (with_register p r (sum (register p r) 2)) (loads (register p r))
+
 -- A word is fetched at PC, which rises past it as its address is sent.
 unfoldable pub fetches : Processor → Act (Option ℕ × Processor)
-fetches p = leaving (with_register p Pc (sum (register p Pc) 2)) (loads (register p Pc))
+fetches p = reads_past Pc p
 
 -- Modes 2 and 4 move a register by 2, or by 1 for byte operations on R0 to R5.
 abbrev pub stride : Size → Register → ℕ

@@ -3,7 +3,7 @@ ghost use Rattle.std.specs.Prelude.{◌≡◌};
 ghost use Rattle.bus.specs.Courses.{Played};
 ghost use Rattle.operands.specs.State.{beside};
 ghost use Rattle.operands.specs.Machines.{Ran};
-ghost use Rattle.operands.specs.Operands.{fetches, stride, points, indexes, locates, half, loads_byte, takes, gives};
+ghost use Rattle.operands.specs.Operands.{reads_past, fetches, stride, points, indexes, locates, half, loads_byte, takes, gives};
 
 use crate::machine::Machine;
 use crate::state::Processor;
@@ -78,18 +78,23 @@ pub fn take<B: Board, C: Cabinet>(
 }
 
 impl<B: Board, C: Cabinet> Machine<'_, B, C> {
+    // The word that a register points to, which rises past it.
+    pub fn read_past(&mut self, r: Register) -> Result<Option<u16>, Gone>
+        ensures { Ran B.Board C.Cabinet (reads_past r) self.old (beside result self.new.processor.now) self.new }
+    {
+        let at = self.processor.register(r);
+        self.processor.set_register(r, at.wrapping_add(2));
+        load(self.board, self.side, at)
+    }
+
     // The word at PC, which rises past it.
     #[tactic(auto, unfolding(crate::specs::Operands::fetches))]
     pub fn fetch(&mut self) -> Result<Option<u16>, Gone>
         ensures { Ran B.Board C.Cabinet fetches self.old (beside result self.new.processor.now) self.new }
     {
-        let at = self.processor.register(Register::Pc);
-        self.processor
-            .set_register(Register::Pc, at.wrapping_add(2));
-        load(self.board, self.side, at)
+        self.read_past(Register::Pc)
     }
 
-    // Each access is taken apart by `let .. else`, the one form of a time-out in this and the crates above.
     #[tactic(auto, unfolding(crate::specs::Operands::indexes))]
     fn index(&mut self, r: Register) -> Result<Option<u16>, Gone>
         ensures { Ran B.Board C.Cabinet (indexes r) self.old (beside result self.new.processor.now) self.new }
