@@ -5,10 +5,6 @@ use crate::name::Operation;
 use arithmetic::{Flags, Outcome};
 use isa::FlagChange;
 
-const OCTAL: u32 = 8;
-
-const BINARY: u32 = 2;
-
 // The flags stand as the number that they are in the low bits of a status word.
 #[derive(Clone, Copy)]
 pub struct Row {
@@ -49,14 +45,14 @@ impl Row {
     pub(crate) fn parse(line: &str) -> Option<Row> {
         let mut fields = line.split_whitespace();
         let operation = Operation::named(fields.next()?)?;
-        let source = number(fields.next()?, OCTAL)?;
-        let destination = number(fields.next()?, OCTAL)?;
-        let old = number(fields.next()?, BINARY)?;
+        let source = number(fields.next()?, 8)?;
+        let destination = number(fields.next()?, 8)?;
+        let old = number(fields.next()?, 2)?;
         let result = match fields.next()? {
             "none" => None,
-            field => Some(number(field, OCTAL)?),
+            field => Some(number(field, 8)?),
         };
-        let flags = number(fields.next()?, BINARY)?;
+        let flags = number(fields.next()?, 2)?;
         Some(Row {
             operation,
             source,

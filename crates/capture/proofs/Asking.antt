@@ -1,16 +1,13 @@
 -- What a feed answers from the records that are left.
 use Rattle.std.proofs.Common.{rules}
-use Rattle.std.proofs.Common.{◌≡◌, true, false, List, ◌∷◌, map, Some}
+use Rattle.std.proofs.Common.{◌≡◌, true, false, List, map, Some}
 use Rattle.std.specs.List.{AllByRecursion}
 use Rattle.bus.specs.declared.exchange.Request.{Request}
 use Rattle.bus.specs.declared.exchange.Exchange.{Exchange}
 use Rattle.capture.specs.Records.{Entry, plain_of}
 use Rattle.capture.specs.Lawful.{lawful}
 use Rattle.capture.specs.Exchanges.{exchange_of, reply_is_lawful, same_request, leaves}
-use Rattle.capture.specs.Handed.{head_of, tail_of}
-
-head_is : (L : List Entry) (e : Entry) → Some e ≡ head_of L → L ≡ e ∷ tail_of L
-head_is a0 e h = search rules
+use Rattle.capture.specs.Handed.{head_of}
 
 -- as exchanges
 abbrev tape : List Entry → List Exchange

@@ -14,7 +14,7 @@ use Rattle.capture.specs.Lawful.{lawful, fits_within}
 use Rattle.capture.specs.Checking.{Answer, one_read, before, and_then, read_then, used_bytes, block_then, read_from, read_capture, whole_blocks, entries, verdict}
 use Rattle.capture.specs.Remaining.{block_at, remains}
 use Rattle.capture.specs.declared.feed.Feed.{Feed}
-use Rattle.capture.specs.Feeds.{left, Stands}
+use Rattle.capture.specs.Feeds.{Stands}
 use Rattle.capture.proofs.Matching.{both_parts}
 use Rattle.capture.proofs.Walks.{read_first, read_more}
 
@@ -120,10 +120,6 @@ checked xs h =
     let k : length xs / 512 - 0 ≡ length xs / 512 = omega arith in
     let e : read_capture xs ≡ remains xs 0 0 = cond-true (whole_blocks (length xs)) _ (Err Blocks) g.0 ∙ (ap (λ (j : ℕ). read_from 0 j xs) (sym k) ∙ s.same) in
     record { whole = w; used = s.used; same = e; fine = sym (ap is_ok e) ∙ o }
-
--- past the last block no record is left
-pub none_left : (f : Feed) (b at : ℕ) → length f.bytes.now / 512 ≤ b → remains f.bytes.now b at ≡ remains f.bytes.now f.block f.from → left f ≡ []
-none_left f b at h s = search (arith, common_steps)
 
 unnumbered : (xs : List Entry) → map unnumbers (map numbers xs) ≡ xs
 unnumbered [] = refl

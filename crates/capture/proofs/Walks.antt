@@ -8,7 +8,7 @@ use Rattle.capture.specs.declared.refusal.Refusal.TheVariants.{Number, Used, Che
 use Rattle.capture.specs.Words.{word_at, both}
 use Rattle.capture.specs.Checksum.{block_sum}
 use Rattle.capture.specs.Records.{Entry}
-use Rattle.capture.specs.Checking.{Answer, one_read, before, and_then, read_then, used_bytes, block_then, read_from, read_capture, whole_blocks, head_answer, verdict, block_alone}
+use Rattle.capture.specs.Checking.{Answer, one_read, before, and_then, read_then, used_bytes, block_then, read_from, read_capture, verdict, block_alone}
 use Rattle.capture.specs.Remaining.{block_at}
 
 pub read_skip : (k : ℕ) (xs : List ℕ) (rest : Answer) → read_then k xs rest ≡ read_then 0 (drop k xs) rest
@@ -84,20 +84,9 @@ verdict_more xs k b h =
 pub both_true : (x y : Bool) → x ≡ true → y ≡ true → both x y ≡ true
 both_true x y a b = search rules
 
-pub whole_since : (len : ℕ) → len % 512 ≡ 0 → 0 < len → len ≤ 2097152 → whole_blocks len ≡ true
-whole_since len a b c = search rules
-
 pub read_whole : (xs : List ℕ) → length xs % 512 ≡ 0 → 0 < length xs → length xs ≤ 2097152 → read_capture xs ≡ read_from 0 (length xs / 512) xs
 read_whole xs a b c = search rules
 
 pub block_then_lem : (b : ℕ) (xs : List ℕ) (rest : Answer) → word_at xs 0 ≡ b → word_at xs 2 ≤ 506 → block_sum xs ≡ 0
     → block_then b xs rest ≡ read_then 0 (used_bytes xs) rest
 block_then_lem b xs rest e1 e2 e3 = search rules
-
-gates : (t u v : Bool) (x : Answer)
-    → verdict (cond t (cond u (cond v x (Err Checksum)) (Err Used)) (Err Number)) ≡ seq (cond t (cond u (cond v (Ok tt) (Err Checksum)) (Err Used)) (Err Number)) (verdict x)
-gates a0 a1 a2 x = search rules
-
--- the questions before the records, and then the records
-pub head_then : (b : ℕ) (xs : List ℕ) → block_alone b xs ≡ seq (head_answer b (word_at xs 0) (word_at xs 2) (block_sum xs)) (verdict (read_then 0 (used_bytes xs) (Ok [])))
-head_then b xs = search rules
