@@ -14,7 +14,8 @@ fn complement(x: Number) -> Outcome
     Outcome::with_result(x.turned(), false, true)
 }
 
-// INC: one more; overflow where that turns a positive number negative.
+// INC: one more; overflow where that turns a positive number negative. The old carry stands beside the number, here and below:
+// it is the status word's, and no part of the number.
 fn increment(x: Number, c: bool) -> Outcome
     ensures { result ≡ incremented x.size x.value c }
 {
@@ -79,7 +80,8 @@ fn rotate_left(x: Number, c: bool) -> Outcome
     move_bits(x.with(2 * x.value as u32 + u32::from(c)), x.is_negative())
 }
 
-// What an operation makes of an operand and of the old carry.
+// What an operation makes of an operand and of the old carry. A match and no table of functions: its cases are what an
+// operation is.
 fn operate(operation: SingleOperation, x: Number, c: bool) -> Outcome
     ensures outcome { result ≡ single_below operation x.size x.value c }
     ensures held { Holds x.size result }

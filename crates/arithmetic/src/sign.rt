@@ -7,7 +7,7 @@ ghost use Rattle.arithmetic.specs.Widths.{spread, branch_distance};
 pub fn sign_spread(byte: u16) -> u16
     ensures { result ≡ spread byte }
 {
-    let low = (byte % 256) as u8;
+    let [low, _] = byte.to_le_bytes();
     i16::from(low.cast_signed()).cast_unsigned()
 }
 

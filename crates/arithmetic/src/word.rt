@@ -7,7 +7,7 @@ use crate::sums::Pair;
 use crate::width::Number;
 use isa::{Flags, Size};
 
-// ADD: source plus destination.
+// ADD: source plus destination. ADD and SUB stay two functions: both are public, and each is one line over `Pair`.
 #[tactic(auto, unfolding(crate::specs::Words::add_outcome))]
 pub fn add(source: u16, destination: u16) -> Outcome
     ensures { result ≡ add_outcome source destination }

@@ -22,6 +22,7 @@ fn reset<B: Board, C: Cabinet>(machine: &mut Machine<'_, B, C>) -> Result<Ending
     Ok(Ending::Completed)
 }
 
+// The control words. A match and no table of functions: its cases are what a word does.
 #[tactic(auto, unfolding(crate::specs::Executes::controls))]
 pub(crate) fn control<B: Board, C: Cabinet>(
     machine: &mut Machine<'_, B, C>,

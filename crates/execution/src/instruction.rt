@@ -13,7 +13,8 @@ use bus::{Board, Cabinet, Gone};
 use isa::{Instruction, Size};
 use operands::{Machine, Processor};
 
-// Executes an instruction whose word was fetched; PC is past it already.
+// Executes an instruction whose word was fetched; PC is past it already. A match and no table of functions: its cases are what an
+// instruction is.
 #[tactic(auto, unfolding(crate::specs::Executes::executes))]
 pub fn execute_on<B: Board, C: Cabinet>(
     machine: &mut Machine<'_, B, C>,

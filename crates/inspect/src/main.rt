@@ -41,10 +41,9 @@ fn print_totals(rt: &HostRuntime, records: usize, totals: Totals) -> io::Result<
 // Prints a line for each record that is left, and then the totals.
 fn print_records(rt: &HostRuntime, heap: Global, feed: &mut Feed) -> io::Result<()> {
     let mut totals = Totals::default();
-    // No `for`, since each turn asks the feed how many records it has handed out.
-    while let Some(record) = feed.next() {
+    for (number, record) in (1..).zip(feed.by_ref()) {
         totals.count(record);
-        let line = record_line(heap, feed.used(), record)?;
+        let line = record_line(heap, number, record)?;
         rt.println(line.as_str())?;
     }
     print_totals(rt, feed.used(), totals)

@@ -82,7 +82,7 @@ pub fn mark_text(answered: bool) -> &'static str
     if answered { "answered" } else { "timed out" }
 }
 
-// A word in six octal digits, as listings write it.
+// A word in six octal digits, as listings write it, for callers with no heap to print in.
 pub fn octal(word: u16) -> [u8; 6]
     ensures { result ≡ octal_text word }
 {

@@ -12,7 +12,7 @@ pub fn refused_block(bytes: &[u8]) -> usize
 {
     let (blocks, _) = bytes.as_chunks::<BLOCK>();
     let blocks = &blocks[..blocks.len().min(MOST_BLOCKS)];
-    // A `for`, since `find` over numbers would name each block by its index again.
+    // A `for`: `position` would count the blocks a second time, since each is asked under its number from `enumerate`.
     for (number, block) in blocks.iter().enumerate() {
         if check_block(number as u16, block).is_err() {
             return number;

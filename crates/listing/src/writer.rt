@@ -2,6 +2,7 @@
 ghost use Rattle.std.specs.Prelude.{◌≡◌, ◌+◌, ◌≤◌, [], ◌++◌, length, drop, Some};
 ghost use Rattle.listing.specs.Shown.{shown};
 
+use crate::lister::LONGEST_LINE;
 use crate::text_line::Line;
 use std::fmt;
 
@@ -11,11 +12,12 @@ impl Line {
         ensures size { result.length ≡ 0 }
     {
         Line {
-            bytes: [0; 28],
+            bytes: [0; LONGEST_LINE],
             length: 0,
         }
     }
 
+    // Bytes at the end. The room is asked for here and wherever more is put: what is put differs, so it is no invariant.
     pub(crate) fn put_bytes(&mut self, more: &[u8])
         requires { self.old.length + length more.now ≤ 28 }
         ensures text { shown self.new ≡ shown self.old ++ more.now }

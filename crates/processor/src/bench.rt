@@ -12,7 +12,7 @@ use bus::{Board, Cabinet, Gone, Request};
 use operands::{Life, Machine, Processor};
 
 // What a processor is asked to do: to start anew with this PC and PSW, or to make a step. A value and no closure, since calls
-// and laws speak of it, and no `Option` of the two words, since a step is no missing restart.
+// and laws speak of it, and no `Option` of the two words, since a step is no missing restart. PC and PSW are two numbers, and no thing of their own.
 #[derive(Clone, Copy)]
 pub enum Job {
     Restart(u16, u16),

@@ -183,10 +183,6 @@ fill_more b s cur new ec en =
     ∙ (sym (append_assoc P (block_bytes b []) (drop (512 * (b + 1)) s))
     ∙ ap (λ (xs : List ℕ). xs ++ drop (512 * (b + 1)) s) (sym m))))))
 
--- a header that is written is 4 or 6
-headers : (P : ℕ → Type 0) (h : ℕ) → header_allowed h ≡ true → P 4 → P 6 → P h
-headers P h l four six = search rules
-
 pub header_many : (h : ℕ) → header_allowed h ≡ true → 0 < 506 / (h + 4)
 header_many h l = search rules
 

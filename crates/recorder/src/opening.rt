@@ -75,7 +75,8 @@ fn fill_empty(buffer: &mut [u8], blocks: usize)
 }
 
 impl<'a> Recorder<'a> {
-    // Whether a recorder can be opened over so many bytes with such headers. Nothing is touched.
+    // Whether a recorder can be opened over so many bytes with such headers. Nothing is touched. A header length is a number: any
+    // is asked about, and all but two are refused.
     pub fn question(size: usize, header: u8) -> Result<(), Refusal>
         ensures { result ≡ opening size header }
     {

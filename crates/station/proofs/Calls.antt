@@ -1,4 +1,5 @@
--- Calls of a rig, from the job up: with exactly the exchanges that were made a station does the same.
+-- Calls of a rig, from the job up: with exactly the exchanges that were made a station does the same. Nothing cites the last of
+-- these yet: rig and replay, which are to come, will.
 use Rattle.std.proofs.Common.{◌≡◌, ℕ, suc, ◌+◌, ◌-◌, ◌<◌, ◌≤◌, Bool, true, false, List, [], ◌++◌, length, Some, None, Ok, Err, Option, Result, sym, refl, ap, ◌∙◌, append_assoc, append-nil, arith}
 use Rattle.std.proofs.lemmas.Bool.{cond-true, cond-false}
 use Rattle.bus.specs.declared.exchange.Gone.{Gone}

@@ -5,7 +5,7 @@ ghost use Rattle.station.specs.Stations.{pace};
 
 use processor::Answer;
 
-// A call: restart with PC and PSW, one step, or a run of up to so many steps.
+// A call: restart with PC and PSW (two numbers, and no thing of their own), one step, or a run of up to so many steps.
 #[derive(Clone, Copy)]
 pub enum Call {
     Restart(u16, u16),
