@@ -25,19 +25,6 @@ returns-clause-undoing c =
       left_gives_carry_back = λ size x f p. grind (arith, nat_tests);
     }
 
-pub returns-clause-exactness : goal.returns-clause-exactness
-unfolding add_outcome subtract_outcome single_outcome
-returns-clause-exactness c =
-    record {
-      sum = λ s d p q v. grind (arith, ints, nat_tests);
-      difference = λ s d p q v. grind (arith, ints, nat_tests);
-      negative = λ size x f p v. grind (arith, ints, nat_tests);
-      carry_added = λ size x f p v. grind (arith, ints, nat_tests);
-      carry_taken = λ size x f p v. grind (arith, ints, nat_tests);
-      half = λ size x f p. grind (arith, ints, nat_tests);
-      double = λ x f p. grind (arith, ints, nat_tests);
-    }
-
 pub returns-clause-comparing : goal.returns-clause-comparing
 unfolding subtract_outcome double_outcome
 returns-clause-comparing c =
