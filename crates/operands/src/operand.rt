@@ -44,7 +44,10 @@ fn point<B: Board, C: Cabinet>(
 ) -> Result<Option<Location>, Gone>
     ensures { Played C.meaning C.becomes (points at) (B.meaning board.old) side.old result (B.meaning board.new) side.new }
 {
-    Ok(load(board, side, at)?.map(Location::InMemory))
+    let Some(pointer) = load(board, side, at)? else {
+        return Ok(None);
+    };
+    Ok(Some(Location::InMemory(pointer)))
 }
 
 #[tactic(auto, unfolding(crate::specs::Operands::loads_byte))]
@@ -55,7 +58,10 @@ fn load_byte<B: Board, C: Cabinet>(
 ) -> Result<Option<u16>, Gone>
     ensures { Played C.meaning C.becomes (loads_byte at) (B.meaning board.old) side.old result (B.meaning board.new) side.new }
 {
-    Ok(load(board, side, at)?.map(|word| half_of(at, word)))
+    let Some(word) = load(board, side, at)? else {
+        return Ok(None);
+    };
+    Ok(Some(half_of(at, word)))
 }
 
 // What an operand holds. The processor is only looked at, so that it need not be a machine's.
@@ -95,6 +101,7 @@ impl<B: Board, C: Cabinet> Machine<'_, B, C> {
         self.read_past(Register::Pc)
     }
 
+    // The next word added to a register. Each access is taken apart by `let .. else`, the one form of a time-out here and above.
     #[tactic(auto, unfolding(crate::specs::Operands::indexes))]
     fn index(&mut self, r: Register) -> Result<Option<u16>, Gone>
         ensures { Ran B.Board C.Cabinet (indexes r) self.old (beside result self.new.processor.now) self.new }
@@ -134,7 +141,12 @@ impl<B: Board, C: Cabinet> Machine<'_, B, C> {
                 self.processor.set_register(r, at);
                 point(self.board, self.side, at)
             }
-            Operand::Index(r) => Ok(self.index(r)?.map(Location::InMemory)),
+            Operand::Index(r) => {
+                let Some(at) = self.index(r)? else {
+                    return Ok(None);
+                };
+                Ok(Some(Location::InMemory(at)))
+            }
             Operand::IndexDeferred(r) => {
                 let Some(at) = self.index(r)? else {
                     return Ok(None);
