@@ -82,7 +82,7 @@ pub fn mark_text(answered: bool) -> &'static str
     if answered { "answered" } else { "timed out" }
 }
 
-// A word in six octal digits, as listings write it, for callers with no heap to print in.
+// A word in six octal digits, as listings write it.
 pub fn octal(word: u16) -> [u8; 6]
     ensures { result ≡ octal_text word }
 {
@@ -101,7 +101,7 @@ fn hex_digit(digit: u8) -> u8
     }
 }
 
-// A space and a byte in two hexadecimal digits, for callers with no heap to print in.
+// A space and a byte in two hexadecimal digits.
 pub fn hex(byte: u8) -> [u8; 3]
     ensures { result ≡ hex_text byte }
 {

@@ -1,18 +1,29 @@
 // The line of a record.
-ghost use Rattle.std.specs.Prelude.{◌≡◌, ◌++◌, IfOk, string_bytes, OnOk};
+ghost use Rattle.std.specs.Prelude.{◌≡◌, ℕ, ◌<◌, ◌++◌, length, IfOk, string_bytes, OnOk, slice_index};
 ghost use Rattle.capture.specs.Handed.{shown, added_of};
 ghost use Rattle.inspection.specs.Texts.{bytes_text, added_text, line_text};
 
-use crate::fields::{Fields, fields_of, kind_text, mark_text};
+use crate::fields::{Fields, fields_of, hex, kind_text, mark_text, octal};
 use capture::Record;
 use std::alloc::{AllocError, Global};
+
+// Adds ASCII bytes to a line. Digits go this way: by `{:06o}` and `{:02X}` a line took one and a half to four times as long.
+fn push_ascii(line: &mut String, bytes: &[u8]) -> Result<(), AllocError>
+    requires { (k : ℕ) → k < length bytes.now → slice_index bytes.now k < 128 }
+    ensures { OnOk result (string_bytes line.new ≡ string_bytes line.old ++ bytes.now) }
+{
+    for byte in bytes {
+        line.push(*byte as char)?;
+    }
+    Ok(())
+}
 
 // Adds a space and two digits for each byte.
 fn push_bytes(line: &mut String, bytes: &[u8]) -> Result<(), AllocError>
     ensures { OnOk result (string_bytes line.new ≡ string_bytes line.old ++ bytes_text bytes.now) }
 {
     for byte in bytes {
-        write!(line, " {byte:02X}")?;
+        push_ascii(line, &hex(*byte))?;
     }
     Ok(())
 }
@@ -41,9 +52,10 @@ pub fn record_line(heap: Global, number: usize, rec: Record) -> Result<String, A
     } = fields_of(rec);
     let kind = kind_text(kind.number());
     let mark = mark_text(answered);
-    let mut line = format!(in heap;
-        "{number}: {kind}, {mark}, address {address:06o}, word {word:06o}"
-    )?;
+    let mut line = format!(in heap; "{number}: {kind}, {mark}, address ")?;
+    push_ascii(&mut line, &octal(address))?;
+    line.push_str(", word ")?;
+    push_ascii(&mut line, &octal(word))?;
     push_added(&mut line, rec.added())?;
     Ok(line)
 }
