@@ -11,7 +11,7 @@ ghost use Rattle.recorder.specs.Noting.{noting_answer, noted};
 ghost use Rattle.recorder.specs.Made.{bytes_of, made, places_of};
 
 use crate::encoding::{lawful, record_bytes};
-use crate::opening::block_of;
+use crate::opening::write_block;
 use crate::recorder::{Recorder, Sheets};
 use bus::Exchange;
 use capture::block::{AFTER_HEADER, BLOCK, MOST_USED, RECORDS};
@@ -41,7 +41,8 @@ impl<'a> Sheets<'a> {
         let records = from + RECORDS;
         let at = records + rec.len() * (self.count % n);
         let buffer = &mut *self.buffer;
-        let block = block_of(number as u16, &buffer[records..at], rec);
+        let mut block = [0; BLOCK];
+        write_block(&mut block, number as u16, &buffer[records..at], rec);
         buffer[from..from + BLOCK].copy_from_slice(&block);
         self.count += 1;
     }

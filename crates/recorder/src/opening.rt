@@ -1,5 +1,5 @@
 // Opening a recorder: the questions, and then the making, which fills the buffer with empty blocks.
-ghost use Rattle.std.specs.Prelude.{◌≡◌, ◌+◌, ◌*◌, ◌/◌, ◌≤◌, [], ◌++◌, length, take, is_ok, if◌then◌else◌};
+ghost use Rattle.std.specs.Prelude.{◌≡◌, ◌+◌, ◌*◌, ◌/◌, ◌≤◌, [], ◌++◌, length, take, replicate, is_ok, if◌then◌else◌};
 ghost use Rattle.capture.specs.Blocks.{sealed, unsealed, zeros_after, block_bytes};
 ghost use Rattle.recorder.specs.Recording.{laid};
 ghost use Rattle.recorder.specs.Opening.{opening, opening_number};
@@ -37,9 +37,10 @@ fn seal(block: &mut Block)
     block[LAST_WORD..].copy_from_slice(&balance.to_le_bytes());
 }
 
-// Number, used count, the records before and a further one, and zeros: all but the last word.
+// Number, used count, the records before and a further one over zeros, which stay behind them: all but the last word.
 fn lay(block: &mut Block, number: u16, before: &[u8], rec: &[u8])
-    requires { length before.now + length rec.now ≤ 506 }
+    requires zeros { block.old ≡ replicate 512 0 }
+    requires fit { length before.now + length rec.now ≤ 506 }
     ensures { take 510 block.new ≡ unsealed number (before.now ++ rec.now) (zeros_after (before.now ++ rec.now)) }
 {
     let at = RECORDS + before.len();
@@ -49,18 +50,17 @@ fn lay(block: &mut Block, number: u16, before: &[u8], rec: &[u8])
     block[USED..RECORDS].copy_from_slice(&used.to_le_bytes());
     block[RECORDS..at].copy_from_slice(before);
     block[at..end].copy_from_slice(rec);
-    block[end..LAST_WORD].fill(0);
 }
 
-// The block of that number with the records before and a further one.
-pub(crate) fn block_of(number: u16, before: &[u8], rec: &[u8]) -> Block
-    requires { length before.now + length rec.now ≤ 506 }
-    ensures { result ≡ block_bytes number (before.now ++ rec.now) }
+// Makes zeros the block of that number with the records before and a further one: in a place of the caller's, since a block that is
+// answered is copied once more.
+pub(crate) fn write_block(block: &mut Block, number: u16, before: &[u8], rec: &[u8])
+    requires zeros { block.old ≡ replicate 512 0 }
+    requires fit { length before.now + length rec.now ≤ 506 }
+    ensures { block.new ≡ block_bytes number (before.now ++ rec.now) }
 {
-    let mut block = [0; BLOCK];
-    lay(&mut block, number, before, rec);
-    seal(&mut block);
-    block
+    lay(block, number, before, rec);
+    seal(block);
 }
 
 // Fills the buffer with empty blocks.
@@ -70,7 +70,9 @@ fn fill_empty(buffer: &mut [u8], blocks: usize)
 {
     // By index: of chunks_exact_mut and as_chunks_mut the library does not say what the buffer ends as.
     for b in 0..blocks {
-        buffer[BLOCK * b..BLOCK * b + BLOCK].copy_from_slice(&block_of(b as u16, &[], &[]));
+        let mut block = [0; BLOCK];
+        write_block(&mut block, b as u16, &[], &[]);
+        buffer[BLOCK * b..BLOCK * b + BLOCK].copy_from_slice(&block);
     }
 }
 

@@ -8,6 +8,6 @@ returns c =
     let m = s.count / c.args.n in
     let k = length c.args.rec.now * (s.count % c.args.n) in
     record {
-      bytes = note_is (512 * m) m k s.buffer.now c.args.rec.now _ (omega (arith, place_fits (length c.args.rec.now) c.args.n s.count c.requires.many c.requires.fit)) (c.copy_from_slice.ensures.after ∙ c.block_of-block.ensures);
+      bytes = note_is (512 * m) m k s.buffer.now c.args.rec.now _ (omega (arith, place_fits (length c.args.rec.now) c.args.n s.count c.requires.many c.requires.fit)) (c.copy_from_slice.ensures.after ∙ c.write_block.ensures);
       count = refl;
     }
