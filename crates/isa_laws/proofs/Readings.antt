@@ -20,7 +20,7 @@ unfolding reading
 all_right = refl
 
 -- a test that passes by computing at all numbers below n passes at each
-every : (test : ℕ → Bool) (n k : ℕ) → list_all test (range_with_len 0 n) ≡ true → k < n → test k ≡ true
+pub every : (test : ℕ → Bool) (n k : ℕ) → list_all test (range_with_len 0 n) ≡ true → k < n → test k ≡ true
 every test n k h lt =
     rw (get_or-range_with_len 0 n k 0 lt, zero-add) at
     (All-get_or (λ x. test x ≡ true) (range_with_len 0 n) k 0 (rw length-range_with_len lt)
